@@ -1,0 +1,4 @@
+pub mod Cases
+pub mod Counting
+pub mod Laws
+mod Words

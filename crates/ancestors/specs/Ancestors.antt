@@ -1,0 +1,32 @@
+-- Ancestor lists of document 01, "The network": 32 bits, of which bit i has the value 2 ^ i and stands for node i.
+-- Assumes nothing.
+use mathlib.Core.Bool.{Bool, true, false}
+use Prim.Native.Nat.{ℕ, zero, suc, _+_, _-_, _/_, _%_, _^_}
+use lib.Dec.{eqb}
+use lib.Bits.{bitOr}
+use lib.Count.{ones}
+
+-- node i is in the list l
+unfoldable pub has : ℕ → ℕ → Bool
+has l i = eqb (l / 2 ^ i % 2) 1
+
+-- the list l with node i
+unfoldable pub put : ℕ → ℕ → ℕ
+put l i = bitOr l (2 ^ i)
+
+-- the list of node i alone: its own bit
+abbrev pub own : ℕ → ℕ
+own i = put 0 i
+
+-- hops are the number of ones in the list less one
+unfoldable pub hops : ℕ → ℕ
+hops l = ones l - 1
+
+abbrev pub one : Bool → ℕ
+one true = 1
+one false = 0
+
+-- how many numbers below k pass the test
+unfoldable pub count : (ℕ → Bool) → ℕ → ℕ
+count f zero = 0
+count f (suc k) = one (f k) + count f k

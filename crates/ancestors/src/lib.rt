@@ -1,0 +1,37 @@
+// Ancestor lists as 32-bit words: whether a node is listed, a list with a node more, and its hops.
+//
+// No function has a `requires`: a node above 31 is in no list and joins none.
+ghost use mathlib.Core.Path.{_≡_};
+ghost use mathlib.Core.Bool.{cond};
+ghost use lib.Dec.{ltb};
+ghost use Rattle.ancestors.specs.Ancestors.{has, put, hops};
+
+// Whether the node is in the list.
+pub fn listed(list: u32, node: u32) -> bool
+    ensures { λ r. ⌜ r ≡ has list node ⌝ }
+{
+    if 32 <= node {
+        return false;
+    }
+    (list >> node) & 1 == 1
+}
+
+// The list with the node.
+pub fn joined(list: u32, node: u32) -> u32
+    ensures { λ r. ⌜ r ≡ cond (ltb node 32) (put list node) list ⌝ }
+{
+    if 32 <= node {
+        return list;
+    }
+    list | (1u32 << node)
+}
+
+// The number of ones in the list less one; 0 for the empty list.
+pub fn count_hops(list: u32) -> u32
+    ensures { λ r. ⌜ r ≡ hops list ⌝ }
+{
+    if list == 0 {
+        return 0;
+    }
+    u32::count_ones(list) - 1
+}
