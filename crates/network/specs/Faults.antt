@@ -1,0 +1,78 @@
+-- Document 01, "What input alone brings on": the limits, and the conditions behind numbers 3 and 5, each by itself.
+-- Assumes nothing.
+use mathlib.Core.Bool.{Bool, not, _||_}
+use Prim.Native.Nat.{ℕ, _*_, _^_}
+use lib.Dec.{eqb, ltb, leb}
+use Rattle.ancestors.specs.Ancestors.{has}
+
+-- the most nodes
+abbrev pub maxNodes : ℕ
+maxNodes = 32
+
+-- the largest cost
+abbrev pub maxCost : ℕ
+maxCost = 65535
+
+-- the largest label: 31 times the largest cost
+abbrev pub maxLabel : ℕ
+maxLabel = 31 * maxCost
+
+-- the highest grade
+abbrev pub maxGrade : ℕ
+maxGrade = 15
+
+-- ---- 3, range
+
+-- n is 0 or above 32, or the origin is not below n
+unfoldable pub sizeFault : ℕ → ℕ → Bool
+sizeFault n origin = eqb n 0 || (ltb maxNodes n || leb n origin)
+
+-- a node is not below n
+unfoldable pub nodeFault : ℕ → ℕ → Bool
+nodeFault n y = leb n y
+
+-- the sender or the receiver is not below n, or they are equal
+unfoldable pub pairFault : ℕ → ℕ → ℕ → Bool
+pairFault n s r = leb n s || (leb n r || eqb s r)
+
+-- a cost above 65,535
+unfoldable pub costFault : ℕ → Bool
+costFault c = ltb maxCost c
+
+-- a grade above 15
+unfoldable pub gradeFault : ℕ → Bool
+gradeFault g = ltb maxGrade g
+
+-- ---- 5, form
+
+-- a row for the origin
+unfoldable pub originFault : ℕ → ℕ → Bool
+originFault origin y = eqb y origin
+
+-- a row's label is 0 or above the largest
+unfoldable pub rowLabelFault : ℕ → Bool
+rowLabelFault d = eqb d 0 || ltb maxLabel d
+
+-- a report's label is above the largest
+unfoldable pub reportLabelFault : ℕ → Bool
+reportLabelFault d = ltb maxLabel d
+
+-- a predecessor is not below n or is the node itself
+unfoldable pub predecessorFault : ℕ → ℕ → ℕ → Bool
+predecessorFault n y p = leb n p || eqb p y
+
+-- a list has a bit not below n, or lacks the bit of node i
+unfoldable pub listFault : ℕ → ℕ → ℕ → Bool
+listFault n i l = leb (2 ^ n) l || not (has l i)
+
+-- a report without an arc, whose cost would be c
+unfoldable pub arcFault : ℕ → Bool
+arcFault c = eqb c 0
+
+-- a row of node y has one of these faults
+unfoldable pub rowFault : ℕ → ℕ → ℕ → ℕ → ℕ → ℕ → Bool
+rowFault n origin y d p l = originFault origin y || (rowLabelFault d || (predecessorFault n y p || listFault n y l))
+
+-- a report of sender s over an arc of cost c has one of these faults
+unfoldable pub reportFault : ℕ → ℕ → ℕ → ℕ → ℕ → Bool
+reportFault n c s d l = arcFault c || (reportLabelFault d || listFault n s l)

@@ -1,0 +1,5 @@
+pub mod Faults
+pub mod Network
+pub mod Round
+pub mod Change
+pub mod Words
