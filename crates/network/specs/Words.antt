@@ -1,17 +1,49 @@
--- Reports, costs and grades as the leaf functions get them: numbers, and slices of words by sender.
+-- What the leaf functions get and answer: reports and costs as slices of words, by sender, and the enum of a choice.
 -- Assumes nothing.
-use mathlib.Core.Bool.{Bool, cond, not, _&&_, _||_}
+use mathlib.Core.Bool.{Bool, cond, not, _||_}
 use mathlib.Core.List.{List}
 use Prim.Native.Nat.{ℕ}
-use lib.Dec.{eqb, ltb}
+use lib.Dec.{eqb, ltb, leb}
 use lib.ListN.{length, getD}
-use Rattle.network.specs.Faults.{gradeFault}
+use Rattle.network.specs.Faults.{maxNodes}
 use Rattle.network.specs.Network.{Row, none, via, Report, empty, told}
 use Rattle.network.specs.Round.{choice}
-use Rattle.network.specs.Change.{gradeCost}
 use Rattle.network.specs.declared.Choice.{Choice}
 use Rattle.network.specs.declared.Choice.the-variants.{Refused, NoRoute, Route}
 
 -- a report in two words: a list of 0 stands for the empty report
 unfoldable pub reportOf : ℕ → ℕ → Report
 reportOf d l = cond (eqb l 0) empty (told d l)
+
+-- the reports and the costs that words give, by sender
+abbrev pub reports : List ℕ → List ℕ → ℕ → Report
+reports labels lists s = reportOf (getD labels s 0) (getD lists s 0)
+
+abbrev pub costsOf : List ℕ → ℕ → ℕ
+costsOf costs s = getD costs s 0
+
+-- more than 32 senders, not a cost, a label and a list for each, or a receiver above 31
+unfoldable pub wordsFault : List ℕ → List ℕ → List ℕ → ℕ → Bool
+wordsFault costs labels lists y =
+    ltb maxNodes (length costs) || (not (eqb (length labels) (length costs)) || (not (eqb (length lists) (length costs)) || leb maxNodes y))
+
+-- a number, and the row where that is 0
+pub record ChoiceAnswer : Type 0 where
+  pub number : ℕ
+  pub row : Row
+
+abbrev pub refusedChoice : ChoiceAnswer
+refusedChoice = record { number = 3; row = none }
+
+abbrev pub chosen : Row → ChoiceAnswer
+chosen w = record { number = 0; row = w }
+
+unfoldable pub chooseOf : List ℕ → List ℕ → List ℕ → ℕ → ChoiceAnswer
+chooseOf costs labels lists y =
+    cond (wordsFault costs labels lists y) refusedChoice (chosen (choice (length costs) (costsOf costs) (reports labels lists) y))
+
+-- number and row of each case of the enum
+unfoldable pub choiceMeans : Choice → ChoiceAnswer
+choiceMeans Refused = refusedChoice
+choiceMeans NoRoute = chosen none
+choiceMeans (Route d p l) = chosen (via d p l)

@@ -1,7 +1,42 @@
 // The ancestor-list rule on numbers and slices: the offer of a held report, the choice among offers, and the cost of a grade.
 //
 // specs/ has document 01's definitions; the calls on a whole network are in the crate `routing`.
+// No public function has a `requires`.
 ghost use mathlib.Core.Path.{_≡_};
+ghost use Prim.Native.Nat.{_+_, _<_, _≤_};
+ghost use lib.ListN.{length};
+ghost use Rattle.network.specs.Round.{offer, choice};
+ghost use Rattle.network.specs.Change.{gradeCost};
+ghost use Rattle.network.specs.Words.{reportOf, reports, costsOf, chosen, chooseOf, choiceMeans};
+
+// The most nodes, and the largest label: 31 times the largest cost.
+pub const MAX_NODES: u32 = 32;
+
+pub const MAX_COST: u32 = 65535;
+
+pub const MAX_LABEL: u32 = 31 * 65535;
+
+pub const MAX_GRADE: u32 = 15;
+
+// The cost of each grade; grade 0 removes the arc.
+const GRADES: [u32; 16] = [
+    0,
+    600,
+    480,
+    380,
+    300,
+    240,
+    190,
+    150,
+    120,
+    95,
+    75,
+    60,
+    48,
+    38,
+    30,
+    24,
+];
 
 // What a held report offers its receiver.
 pub enum Offer {
@@ -9,8 +44,9 @@ pub enum Offer {
     Sum(u32),
 }
 
-// What a receiver chooses.
+// A receiver's choice among the offers that it holds.
 pub enum Choice {
+    // The words are not those of at most 32 senders, or the receiver is above 31.
     Refused,
     NoRoute,
     Route {
@@ -18,4 +54,94 @@ pub enum Choice {
         predecessor: u32,
         list: u32,
     },
+}
+
+// The cost that a grade stands for; 0 above grade 15.
+pub fn grade_cost(grade: u32) -> u32
+    ensures { λ r. ⌜ r ≡ gradeCost grade ⌝ }
+{
+    if MAX_GRADE < grade {
+        return 0;
+    }
+    GRADES[grade as usize]
+}
+
+fn wide(x: u32) -> u64
+    ensures { λ r. ⌜ r ≡ x ⌝ }
+{
+    x as u64
+}
+
+// Label plus cost, which may not fit 32 bits.
+fn total(label: u32, cost: u32) -> u64
+    ensures { λ r. ⌜ r ≡ label + cost ⌝ }
+{
+    wide(label) + wide(cost)
+}
+
+// The offer of a report, given as two words, over an arc of this cost.
+pub fn offer_of(label: u32, list: u32, cost: u32, receiver: u32) -> Offer
+    ensures { λ r. ⌜ r ≡ offer receiver cost (reportOf label list) ⌝ }
+{
+    if list == 0 {
+        return Offer::Nothing;
+    }
+    if ancestors::listed(list, receiver) {
+        return Offer::Nothing;
+    }
+    let sum = total(label, cost);
+    if 2031585 < sum {
+        return Offer::Nothing;
+    }
+    Offer::Sum(sum as u32)
+}
+
+// The least offer of the senders, and of equals the lowest sender's.
+fn least_offer(costs: &[u32], labels: &[u32], lists: &[u32], receiver: u32) -> Choice
+    requires { ⌜ length (now costs) ≤ 32 ⌝ }
+    requires { ⌜ length (now labels) ≡ length (now costs) ⌝ }
+    requires { ⌜ length (now lists) ≡ length (now costs) ⌝ }
+    requires { ⌜ receiver < 32 ⌝ }
+    ensures { λ r. ⌜ choiceMeans r ≡ chosen (choice (length (now (costs .entry))) (costsOf (now (costs .entry))) (reports (now (labels .entry)) (now (lists .entry))) receiver) ⌝ }
+{
+    let n = costs.len();
+    let mut best = MAX_LABEL + 1;
+    let mut from = 0usize;
+    for s in 0..n {
+        let Offer::Sum(sum) = offer_of(labels[s], lists[s], costs[s], receiver) else {
+            continue;
+        };
+        if sum < best {
+            best = sum;
+            from = s;
+        }
+    }
+    if MAX_LABEL < best {
+        return Choice::NoRoute;
+    }
+    Choice::Route {
+        label: best,
+        predecessor: from as u32,
+        list: ancestors::joined(lists[from], receiver),
+    }
+}
+
+// The row that a receiver chooses from the reports that it holds and the present costs, by sender.
+pub fn choose(costs: &[u32], labels: &[u32], lists: &[u32], receiver: u32) -> Choice
+    ensures { λ r. ⌜ choiceMeans r ≡ chooseOf (now (costs .entry)) (now (labels .entry)) (now (lists .entry)) receiver ⌝ }
+{
+    let n = costs.len();
+    if 32 < n {
+        return Choice::Refused;
+    }
+    if labels.len() != n {
+        return Choice::Refused;
+    }
+    if lists.len() != n {
+        return Choice::Refused;
+    }
+    if MAX_NODES <= receiver {
+        return Choice::Refused;
+    }
+    least_offer(costs, labels, lists, receiver)
 }
