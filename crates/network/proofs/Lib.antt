@@ -1,1 +1,2 @@
 mod Least
+mod Bits

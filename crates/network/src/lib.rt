@@ -3,8 +3,10 @@
 // specs/ has document 01's definitions; the calls on a whole network are in the crate `routing`.
 // No public function has a `requires`.
 ghost use mathlib.Core.Path.{_≡_};
-ghost use Prim.Native.Nat.{_+_, _<_, _≤_};
+ghost use Prim.Native.Nat.{_+_, _^_, _<_, _≤_};
+ghost use lib.Dec.{leb};
 ghost use lib.ListN.{length};
+ghost use Rattle.network.specs.Faults.{pairFault, listFault, rowFault, reportFault};
 ghost use Rattle.network.specs.Round.{offer, choice};
 ghost use Rattle.network.specs.Change.{gradeCost};
 ghost use Rattle.network.specs.Words.{reportOf, reports, costsOf, chosen, chooseOf, choiceMeans};
@@ -54,6 +56,74 @@ pub enum Choice {
         predecessor: u32,
         list: u32,
     },
+}
+
+// Whether the sender or the receiver is not below n, or they are equal.
+pub fn pair_fault(n: u32, sender: u32, receiver: u32) -> bool
+    ensures { λ b. ⌜ b ≡ pairFault n sender receiver ⌝ }
+{
+    if n <= sender {
+        return true;
+    }
+    if n <= receiver {
+        return true;
+    }
+    sender == receiver
+}
+
+// Whether the list has a bit not below n.
+fn bit_beyond(n: u32, list: u32) -> bool
+    ensures { λ b. ⌜ b ≡ leb (2 ^ n) list ⌝ }
+{
+    if 32 <= n {
+        return false;
+    }
+    list >> n != 0
+}
+
+// Whether the list has a bit not below n, or lacks the node's.
+pub fn list_fault(n: u32, node: u32, list: u32) -> bool
+    ensures { λ b. ⌜ b ≡ listFault n node list ⌝ }
+{
+    if bit_beyond(n, list) {
+        return true;
+    }
+    !ancestors::listed(list, node)
+}
+
+// Whether a relay's row has a fault of form among n nodes.
+pub fn row_fault(n: u32, origin: u32, node: u32, label: u32, predecessor: u32, list: u32) -> bool
+    ensures { λ b. ⌜ b ≡ rowFault n origin node label predecessor list ⌝ }
+{
+    if node == origin {
+        return true;
+    }
+    if label == 0 {
+        return true;
+    }
+    if MAX_LABEL < label {
+        return true;
+    }
+    if n <= predecessor {
+        return true;
+    }
+    if predecessor == node {
+        return true;
+    }
+    list_fault(n, node, list)
+}
+
+// Whether a report over an arc of this cost has a fault of form among n nodes.
+pub fn report_fault(n: u32, cost: u32, sender: u32, label: u32, list: u32) -> bool
+    ensures { λ b. ⌜ b ≡ reportFault n cost sender label list ⌝ }
+{
+    if cost == 0 {
+        return true;
+    }
+    if MAX_LABEL < label {
+        return true;
+    }
+    list_fault(n, sender, list)
 }
 
 // The cost that a grade stands for; 0 above grade 15.

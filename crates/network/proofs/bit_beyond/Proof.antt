@@ -1,0 +1,20 @@
+-- `network::bit_beyond` meets its contract: a shift leaves the bits not below n.
+-- Assumes nothing.
+use borrow.Author.Needs.{needs}
+use mathlib.Core.Path.{sym}
+use borrow.Author.Tests.{lt-leb}
+use Rattle.network.proofs.Bits.{shift-none, shift-some}
+use Rattle.network.proofs.bit_beyond.Statement.{statement}
+use Rattle.network.proofs.bit_beyond.Tie as tie
+
+returns : tie.Need-returns
+returns c = sym (lt-leb _ _ (shift-none (c .before .args .n) (c .before .args .list) (c .before .fits .list .fits) (c .if1 .taken)))
+
+shr-result : tie.Need-shr-result
+shr-result c = search needs
+
+returns-2 : tie.Need-returns-2
+returns-2 c = shift-some (c .before .args .n) (c .before .args .list)
+
+pub bit-beyond-spec : {M : Type 1} → statement M
+bit-beyond-spec = tie.close (tie.spec returns shr-result returns-2)

@@ -1,0 +1,49 @@
+-- What the private functions do: the parts of a round.
+-- Assumes nothing.
+use mathlib.Core.Path.{_≡_}
+use mathlib.Core.Bool.{Bool, cond, _&&_}
+use mathlib.Core.List.{List}
+use Prim.Native.Nat.{ℕ, _+_, _<_}
+use lib.Dec.{eqb, ltb}
+use lib.ListN.{length, getD}
+use Rattle.ancestors.specs.Ancestors.{has, own}
+use Rattle.network.specs.Faults.{pairFault}
+use Rattle.network.specs.Network.{Net}
+use Rattle.network.specs.Round.{Marks, some}
+use Rattle.routing.specs.Layout.{words, look, view}
+
+-- the origin's words in memory, which hearing copies, are those of its row
+pub record Primed (xs : List ℕ) : Type 0 where
+  pub label : view xs .origin < view xs .nodes → look xs (32 + view xs .origin) ≡ 0
+  pub list : view xs .origin < view xs .nodes → look xs (96 + view xs .origin) ≡ own (view xs .origin)
+
+-- the marks of the receiver r on the senders below k
+unfoldable pub rowMarks : ℕ → ℕ → ℕ → Marks
+rowMarks r w k s y = eqb y r && (ltb s k && has w s)
+
+-- the marks of the receivers below k on the senders below n
+unfoldable pub wordMarks : List ℕ → ℕ → ℕ → Marks
+wordMarks ms n k s y = ltb y k && (ltb s n && has (getD ms y 0) s)
+
+-- the arcs to the receivers below k
+unfoldable pub arcMarks : Net → ℕ → Marks
+arcMarks x k s y = ltb y k && ltb 0 (x .cost s y)
+
+-- a mark of the receiver r is out of range
+unfoldable pub strayRow : ℕ → ℕ → ℕ → Bool
+strayRow n r w = some (λ s. has w s && pairFault n s r) 32
+
+unfoldable pub strayRows : ℕ → List ℕ → ℕ → Bool
+strayRows n ms k = some (λ r. strayRow n r (getD ms r 0)) k
+
+-- a mark of the receiver r on a sender below k has no arc
+unfoldable pub idleRow : Net → ℕ → ℕ → ℕ → Bool
+idleRow x r w k = some (λ s. has w s && eqb (x .cost s r) 0) k
+
+unfoldable pub idleRows : Net → List ℕ → ℕ → Bool
+idleRows x ms k = some (λ r. idleRow x r (getD ms r 0) (x .nodes)) k
+
+-- words of 0
+pub record Blank (xs : List ℕ) : Type 0 where
+  pub size : length xs ≡ words
+  pub zeros : (k : ℕ) → look xs k ≡ 0

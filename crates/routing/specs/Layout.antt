@@ -1,0 +1,52 @@
+-- How a network lies in 3,200 words, and the network that any list of words gives: the one file that knows.
+-- Word 0 is n and word 1 the origin. By node, from 32 on labels, from 64 predecessors, from 96 lists of rows. By receiver * 32 + sender, from
+-- 128 on costs, from 1,152 labels, from 2,176 lists of held reports. A list of 0 is no route, or an empty report.
+-- The origin's row is not read from memory, an n above 32 counts as 32, and what lies at nodes not below n plays no part.
+-- Assumes nothing.
+use mathlib.Core.Bool.{Bool, cond, _&&_}
+use mathlib.Core.List.{List}
+use Prim.Native.Nat.{ℕ, _+_, _*_, min}
+use lib.Dec.{eqb, ltb}
+use lib.ListN.{getD}
+use Rattle.ancestors.specs.Ancestors.{own}
+use Rattle.network.specs.Faults.{maxNodes}
+use Rattle.network.specs.Network.{Row, none, root, via, Net}
+use Rattle.network.specs.Words.{reportOf}
+
+-- the number of words
+abbrev pub words : ℕ
+words = 3200
+
+-- the word of node y in the plane at b
+unfoldable pub word : ℕ → (ℕ → ℕ) → ℕ → ℕ → ℕ
+word n f b y = cond (ltb y n) (f (b + y)) 0
+
+-- the word of a pair in the plane at b
+unfoldable pub cell : ℕ → (ℕ → ℕ) → ℕ → ℕ → ℕ → ℕ
+cell n f b s r = cond (ltb s n && ltb r n) (f (b + (r * 32 + s))) 0
+
+-- a relay's row in three words
+unfoldable pub rowOf : ℕ → ℕ → ℕ → Row
+rowOf d p l = cond (eqb l 0) none (via d p l)
+
+-- the row of node y
+unfoldable pub rowAt : ℕ → (ℕ → ℕ) → ℕ → ℕ → Row
+rowAt n f origin y = cond (eqb y origin) (root (own origin)) (rowOf (word n f 32 y) (word n f 64 y) (word n f 96 y))
+
+unfoldable pub viewOf : (ℕ → ℕ) → Net
+viewOf f =
+    let n = min (f 0) maxNodes in
+    record {
+      nodes = n;
+      origin = f 1;
+      cost = cell n f 128;
+      row = rowAt n f (f 1);
+      held = λ s r. reportOf (cell n f 1152 s r) (cell n f 2176 s r);
+    }
+
+abbrev pub look : List ℕ → ℕ → ℕ
+look xs k = getD xs k 0
+
+-- the network that words give
+unfoldable pub view : List ℕ → Net
+view xs = viewOf (look xs)
