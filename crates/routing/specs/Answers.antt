@@ -11,6 +11,7 @@ use Rattle.network.specs.Network.{Row, none, root, via, Report, empty, told, Ne
 use Rattle.routing.specs.Layout.{view}
 use Rattle.routing.specs.declared.RowRead.{RowRead}
 use Rattle.routing.specs.declared.RowRead.the-variants as R
+use Rattle.routing.specs.declared.CostRead.{CostRead}
 use Rattle.routing.specs.declared.HeldRead.{HeldRead}
 use Rattle.routing.specs.declared.HeldRead.the-variants as H
 
@@ -58,6 +59,9 @@ pub record CostAnswer : Type 0 where
 -- 3 for a node not below n, or sender equal to receiver
 unfoldable pub readCost : Net → ℕ → ℕ → CostAnswer
 readCost x s r = cond (pairFault (x .nodes) s r) (record { number = 3; cost = 0 }) (record { number = 0; cost = x .cost s r })
+
+unfoldable pub costMeans : CostRead → CostAnswer
+costMeans r = record { number = r .number; cost = r .cost }
 
 -- ---- a held report as it is read
 

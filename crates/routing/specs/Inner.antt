@@ -3,7 +3,7 @@
 use mathlib.Core.Path.{_≡_}
 use mathlib.Core.Bool.{Bool, cond, _&&_}
 use mathlib.Core.List.{List}
-use Prim.Native.Nat.{ℕ, _+_, _<_}
+use Prim.Native.Nat.{ℕ, _+_, _<_, _≤_}
 use lib.Dec.{eqb, ltb}
 use lib.ListN.{length, getD}
 use Rattle.ancestors.specs.Ancestors.{has, own}
@@ -12,10 +12,29 @@ use Rattle.network.specs.Network.{Net}
 use Rattle.network.specs.Round.{Marks, some}
 use Rattle.routing.specs.Layout.{words, look, view}
 
+-- y is a node of the network that the words give
+pub record Node (xs : List ℕ) (y : ℕ) : Type 0 where
+  pub below : y < view xs .nodes
+  pub small : y < 32
+
+-- n is the number of nodes
+pub record Nodes (xs : List ℕ) (n : ℕ) : Type 0 where
+  pub is : n ≡ view xs .nodes
+  pub few : n ≤ 32
+
 -- the origin's words in memory, which hearing copies, are those of its row
 pub record Primed (xs : List ℕ) : Type 0 where
   pub label : view xs .origin < view xs .nodes → look xs (32 + view xs .origin) ≡ 0
   pub list : view xs .origin < view xs .nodes → look xs (96 + view xs .origin) ≡ own (view xs .origin)
+
+-- the words give the network x, and the origin's among them are those of its row
+pub record Hears (xs : List ℕ) (x : Net) : Type 0 where
+  pub net : view xs ≡ x
+  pub primed : Primed xs
+
+-- the pair s, r alone, where t holds
+unfoldable pub oneMark : ℕ → ℕ → Bool → Marks
+oneMark s r t a b = eqb a s && (eqb b r && t)
 
 -- the marks of the receiver r on the senders below k
 unfoldable pub rowMarks : ℕ → ℕ → ℕ → Marks
@@ -24,6 +43,10 @@ rowMarks r w k s y = eqb y r && (ltb s k && has w s)
 -- the marks of the receivers below k on the senders below n
 unfoldable pub wordMarks : List ℕ → ℕ → ℕ → Marks
 wordMarks ms n k s y = ltb y k && (ltb s n && has (getD ms y 0) s)
+
+-- the arcs to the receiver r from the senders below k
+unfoldable pub arcRow : Net → ℕ → ℕ → Marks
+arcRow x r k s y = eqb y r && (ltb s k && ltb 0 (x .cost s y))
 
 -- the arcs to the receivers below k
 unfoldable pub arcMarks : Net → ℕ → Marks

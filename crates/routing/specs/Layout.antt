@@ -33,14 +33,14 @@ rowOf d p l = cond (eqb l 0) none (via d p l)
 unfoldable pub rowAt : ℕ → (ℕ → ℕ) → ℕ → ℕ → Row
 rowAt n f origin y = cond (eqb y origin) (root (own origin)) (rowOf (word n f 32 y) (word n f 64 y) (word n f 96 y))
 
-unfoldable pub viewOf : (ℕ → ℕ) → Net
-viewOf f =
-    let n = min (f 0) maxNodes in
+-- the network of n nodes that the words f give
+unfoldable pub netOf : ℕ → ℕ → (ℕ → ℕ) → Net
+netOf n origin f =
     record {
       nodes = n;
-      origin = f 1;
+      origin = origin;
       cost = cell n f 128;
-      row = rowAt n f (f 1);
+      row = rowAt n f origin;
       held = λ s r. reportOf (cell n f 1152 s r) (cell n f 2176 s r);
     }
 
@@ -49,4 +49,4 @@ look xs k = getD xs k 0
 
 -- the network that words give
 unfoldable pub view : List ℕ → Net
-view xs = viewOf (look xs)
+view xs = netOf (min (look xs 0) maxNodes) (look xs 1) (look xs)
