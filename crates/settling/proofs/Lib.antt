@@ -1,0 +1,3 @@
+pub mod Unique
+pub mod Routes
+pub mod SettledBy
