@@ -1,3 +1,4 @@
 pub mod Unique
 pub mod Routes
 pub mod SettledBy
+pub mod Existing

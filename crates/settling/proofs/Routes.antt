@@ -65,8 +65,7 @@ module _ (cost : ℕ → ℕ → ℕ) (origin : ℕ) where
         omega
         (arith, count-more (λ _. false) (has (own origin)) (λ i e. never false e refl) origin refl (has-put-same 0 origin) n (ends .origin-node))
     route-nodes (onward {s = s} {l = l} {y = y} r arc apart) =
-        omega
-        (
+        omega (
           arith,
           route-nodes r,
           count-more (has l) (has (put l y)) (has-kept l y) y apart (has-put-same l y) n (ends .receiver-node s y arc),

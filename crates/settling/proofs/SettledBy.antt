@@ -33,6 +33,11 @@ module _ (cost : ℕ → ℕ → ℕ) (origin : ℕ) where
   by-report at-start = refl
   by-report (next ne b arc m low) = refl
 
+  -- a relay's row has that cost and list, and some predecessor
+  pub by-relay : {y k d l : ℕ} {w : Row} → y ≢ origin → SettledBy y k d l w → (p : ℕ) × (w ≡ via d p l)
+  by-relay relay at-start = absurd (relay refl)
+  by-relay relay (next {s = s} ne b arc m low) = (s, refl)
+
   by-predecessor : (s k e l y : ℕ) (w : Row) → SettledBy s k e l w → 0 < cost s y → Least cost origin y (e + cost s y) →
       ((r : ℕ) → Tight cost origin y r → s ≤ r) → Predecessor cost origin y s
   by-predecessor s k e l y w b arc m low =
