@@ -1,0 +1,5 @@
+pub mod Offers
+pub mod Choosing
+pub mod FaultLaws
+pub mod Limits
+pub mod Grades
