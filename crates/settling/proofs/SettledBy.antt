@@ -8,6 +8,7 @@ use Rattle.ancestors.specs.Ancestors.{has, put, own}
 use Rattle.network.specs.Network.{Row, none, root, via, Report, empty, told}
 use Rattle.network.specs.Round.{report}
 use Rattle.settling.specs.Settled.{Walk, here, along, Route, start, onward, Least, Tight, Predecessor, Ancestors, at-origin, behind, Settled, fixed, unreached, reached}
+use Rattle.settling.proofs.Reports.{report-root, report-via}
 use Rattle.settling.proofs.Routes.{route-apart}
 
 module _ (cost : ℕ → ℕ → ℕ) (origin : ℕ) where
@@ -29,9 +30,8 @@ module _ (cost : ℕ → ℕ → ℕ) (origin : ℕ) where
 
   -- the row reports its cost and list
   pub by-report : {y k d l : ℕ} {w : Row} → SettledBy y k d l w → report w ≡ told d l
-  unfolding report
-  by-report at-start = refl
-  by-report (next ne b arc m low) = refl
+  by-report at-start = report-root (own origin)
+  by-report (next {s = s} {e = e} {l = l} {y = y} ne b arc m low) = report-via (e + cost s y) s (put l y)
 
   -- a relay's row has that cost and list, and some predecessor
   pub by-relay : {y k d l : ℕ} {w : Row} → y ≢ origin → SettledBy y k d l w → (p : ℕ) × (w ≡ via d p l)
