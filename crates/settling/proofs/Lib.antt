@@ -6,3 +6,5 @@ pub mod Existing
 pub mod Relays
 pub mod Run
 pub mod Genuine
+pub mod Standing
+pub mod Converging

@@ -7,9 +7,11 @@ use mathlib.Core.Logic.{_⊎_, inl, inr, _≢_}
 use Prim.Native.Nat.{ℕ, zero, suc, _+_, _*_, _<_, _≤_}
 use native.Mathlib.Omega.{arith}
 use Rattle.ancestors.specs.Ancestors.{has, own}
+use Rattle.network.specs.Faults.{maxLabel}
 use Rattle.network.specs.Network.{Row, none, root, via, Report, empty, told}
 use Rattle.network.specs.Round.{report, choice}
 use Rattle.network.proofs.Choosing.{Made, Came, came, choice-no-root}
+use Rattle.settling.specs.Settled.{Route}
 use Rattle.settling.proofs.Reports.{told-row}
 use Rattle.settling.proofs.Routes.{Ends}
 
@@ -26,6 +28,8 @@ pub record Run : Type 0 where
   pub held : ℕ → ℕ → ℕ → Report
   -- the origin and the ends of arcs are nodes
   pub ends : Ends n origin cost
+  -- a real route's cost is at most the largest label
+  pub fits : (y k d l : ℕ) → Route cost origin y k d l → d ≤ maxLabel
   -- the origin's row is fixed
   pub origin-row : (t : ℕ) → t ≤ T → row t origin ≡ root (own origin)
   -- a relay's row lists the relay
