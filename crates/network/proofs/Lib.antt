@@ -3,3 +3,5 @@ pub mod Choosing
 pub mod FaultLaws
 pub mod Limits
 pub mod Grades
+pub mod Effects
+pub mod Marking
