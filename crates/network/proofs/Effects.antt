@@ -1,16 +1,15 @@
 -- What each call does to a network, one law each. Files above cite these and open none of the definitions named here.
 -- Assumes nothing.
-use mathlib.Core.Path.{_≡_, refl, sym, ap, _∙_}
-use mathlib.Core.Bool.{Bool, true, false, cond, not, _&&_, _||_, or-true, and-false}
+use mathlib.Core.Path.{_≡_, refl, _∙_}
+use mathlib.Core.Bool.{true, false, cond, _&&_, _||_, or-true, and-false}
 use mathlib.Core.Logic.{_⊎_, inl, inr, _≢_}
 use Prim.Native.Nat.{ℕ, _<_, _≤_}
-use native.Mathlib.Omega.{arith}
 use lib.Dec.{eqb, ltb}
 use borrow.Author.Tests.{lt-ltb, le-ltb, eq-eqb, ne-eqb}
 use Rattle.ancestors.specs.Ancestors.{own}
 use Rattle.ancestors.proofs.Cases.{eq-or-ne, eqb-same}
 use Rattle.network.specs.Faults.{maxGrade}
-use Rattle.network.specs.Network.{Row, none, root, Report, empty, Net, setAt, setPair, withCost, withRow, withHeld, Outcome, outcome, freshNet}
+use Rattle.network.specs.Network.{Row, none, root, Report, empty, Net, setAt, setPair, withCost, withRow, withHeld, outcome, freshNet}
 use Rattle.network.specs.Round.{Marks, report, hear, choice, renewTo, renew, round}
 use Rattle.network.specs.Change.{changed, changeNumber, changeOf, gradeCost, gradeNumber, gradeOf}
 use Rattle.network.proofs.FaultLaws.{cost-free, grade-free}

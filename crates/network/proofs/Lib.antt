@@ -5,3 +5,6 @@ pub mod Limits
 pub mod Grades
 pub mod Effects
 pub mod Marking
+pub mod Distinct
+pub mod RoundLimits
+pub mod Keeping

@@ -1,19 +1,19 @@
 -- Tests below a bound, and the marks of an accepted round: every one lies on an arc. Only this file opens `some` and `marked`.
 -- Assumes nothing.
-use mathlib.Core.Path.{_≡_, refl, sym, ap₂, subst, _∙_}
+use mathlib.Core.Path.{_≡_, refl, ap₂, subst}
 use mathlib.Core.Bool.{Bool, true, false, cond, not, _&&_, _||_, or-true}
 use mathlib.Core.Logic.{_⊎_, inl, inr, _≢_}
 use mathlib.Core.List.{List}
-use Prim.Native.Nat.{ℕ, zero, suc, _<_, _≤_}
+use Prim.Native.Nat.{ℕ, zero, suc, _<_}
 use native.Mathlib.Omega.{arith}
 use lib.Dec.{eqb, ltb}
 use lib.ListN.{length, getD}
-use borrow.Author.Tests.{ltb-true, eq-eqb, eqb-false, not-false, eqb-true}
+use borrow.Author.Tests.{ltb-true, eqb-false, not-false, eqb-true}
 use Rattle.ancestors.specs.Ancestors.{has}
 use Rattle.ancestors.proofs.Cases.{bool-cases, eq-or-ne, never, and-both}
 use Rattle.network.specs.Faults.{pairFault}
 use Rattle.network.specs.Network.{Net}
-use Rattle.network.specs.Round.{Marks, marked, some, strayMark, idleMark, roundNumber, everyArc}
+use Rattle.network.specs.Round.{marked, some, strayMark, idleMark, roundNumber, everyArc}
 
 -- ---- some number below k passes the test
 
