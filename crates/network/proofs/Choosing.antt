@@ -1,17 +1,17 @@
 -- What a chosen row says of the reports it was made from, and what the reports say of it. Only this file opens `rowBy`, `listOf` and `choice`.
 -- Assumes nothing.
-use mathlib.Core.Path.{_≡_, refl, sym, ap, ap₂, subst, _∙_}
-use mathlib.Core.Bool.{Bool, true, false}
+use mathlib.Core.Path.{_≡_, refl, sym, ap, ap₂, _∙_}
+use mathlib.Core.Bool.{false}
 use mathlib.Core.Logic.{_⊎_, inl, inr, _≢_}
-use Prim.Native.Nat.{ℕ, zero, suc, _+_, _<_, _≤_}
+use Prim.Native.Nat.{ℕ, _+_, _<_, _≤_}
 use native.Mathlib.Omega.{arith}
 use Rattle.ancestors.specs.Ancestors.{has, put}
 use Rattle.ancestors.proofs.Cases.{eq-or-ne}
 use Rattle.network.specs.Faults.{maxLabel}
-use Rattle.network.specs.Network.{Row, none, root, via, Report, empty, told}
+use Rattle.network.specs.Network.{root, via, Report, told}
 use Rattle.network.specs.Round.{offer, Winner, nobody, sender, winner, listOf, rowBy, choice}
 use Rattle.network.specs.declared.Offer.{Offer}
-use Rattle.network.specs.declared.Offer.the-variants.{Nothing, Sum}
+use Rattle.network.specs.declared.Offer.the-variants.{Sum}
 use Rattle.network.proofs.Offers.{nothing-sum, made, makes, before-once, Won, no-one, some-one, won, winner-ext}
 pub use Rattle.network.proofs.Offers.{Made, Before}
 

@@ -3,3 +3,8 @@ pub mod Choosing
 pub mod FaultLaws
 pub mod Limits
 pub mod Grades
+pub mod Effects
+pub mod Marking
+pub mod Distinct
+pub mod RoundLimits
+pub mod Keeping

@@ -4,7 +4,6 @@ use mathlib.Core.Path.{_≡_}
 use mathlib.Core.Bool.{true}
 use mathlib.Core.Logic.{_≢_}
 use Prim.Native.Nat.{ℕ, _^_, _<_, _≤_}
-use native.Mathlib.Omega.{arith}
 use Rattle.ancestors.specs.Ancestors.{has}
 use Rattle.network.specs.Faults.{maxLabel}
 use Rattle.network.specs.Network.{via, told, Net, Within}
