@@ -8,3 +8,4 @@ pub mod Run
 pub mod Genuine
 pub mod Standing
 pub mod Converging
+pub mod Rounds
