@@ -1,14 +1,14 @@
 -- Every call on a network within limits leaves one within limits, refused calls too.
 -- Assumes nothing.
-use mathlib.Core.Path.{_≡_, refl, sym, ap, _∙_}
-use mathlib.Core.Bool.{Bool, true, false, cond, _||_}
+use mathlib.Core.Path.{_≡_, sym, ap, _∙_}
+use mathlib.Core.Bool.{false}
 use mathlib.Core.Logic.{_⊎_, inl, inr, _≢_}
 use mathlib.Core.List.{List}
-use Prim.Native.Nat.{ℕ, suc, _<_, _≤_}
+use Prim.Native.Nat.{ℕ, _<_, _≤_}
 use native.Mathlib.Omega.{arith}
 use Rattle.ancestors.specs.Ancestors.{own}
-use Rattle.ancestors.proofs.Cases.{eq-or-ne, or-neither}
-use Rattle.network.specs.Faults.{maxCost, sizeFault, nodeFault, pairFault, costFault, gradeFault, rowFault, reportFault}
+use Rattle.ancestors.proofs.Cases.{eq-or-ne}
+use Rattle.network.specs.Faults.{maxCost, sizeFault, nodeFault, pairFault, rowFault, reportFault}
 use Rattle.network.specs.Network.{root, via, told, Net, Within, outcome, freshNet, freshNumber, freshOf, placeRowNumber, placeRowOf, placeReportNumber, placeReportOf}
 use Rattle.network.specs.Network.{withRow, withHeld}
 use Rattle.network.specs.Round.{marked, round, roundNumber, roundOf, everyArc, fullRoundOf}
@@ -17,6 +17,7 @@ use Rattle.network.proofs.Distinct.{root-via, none-root, none-via, empt
 use Rattle.network.proofs.FaultLaws.{size-free, cost-says, row-says, report-free}
 use Rattle.network.proofs.Limits.{within-report}
 use Rattle.network.proofs.Grades.{grade-small}
+use Rattle.network.proofs.Accepting.{fresh-accepted, change-accepted, grade-accepted, place-row-accepted, place-report-accepted}
 use Rattle.network.proofs.Effects.{refused-net, accepted-net, SamePair, same-pair, round-effect, ChangeEffect, change-effect, FreshEffect, fresh-effect, PlaceRowEffect, place-row-effect, PlaceReportEffect, place-report-effect}
 use Rattle.network.proofs.Marking.{round-accepted, every-arc}
 use Rattle.network.proofs.RoundLimits.{rounded-within}
@@ -30,16 +31,6 @@ outcome-within k next x w f = go (eq-or-ne k 0)
     go : (k ≡ 0) ⊎ (k ≢ 0) → Within (outcome k next x .net)
     go (inl e) = rw (accepted-net k next x e) (f e)
     go (inr n) = rw (refused-net k next x n) w
-
--- a call with one test, and a call with two
-one-test : (t : Bool) (k : ℕ) → cond t (suc k) 0 ≡ 0 → t ≡ false
-one-test true k e = absurd (omega arith)
-one-test false k e = refl
-
-two-tests : (a b : Bool) (j k : ℕ) → cond a (suc j) (cond b (suc k) 0) ≡ 0 → (a ≡ false) × (b ≡ false)
-two-tests true b j k e = absurd (omega arith)
-two-tests false true j k e = absurd (omega arith)
-two-tests false false j k e = (refl, refl)
 
 -- ---- fresh
 
@@ -65,16 +56,17 @@ fresh-net-within n origin z f e =
     no-via y d p l q (inr k) = none-via (z .row y) (f .relay-row y k) q
 
 pub fresh-within : (n origin : ℕ) → Within (freshOf n origin .net)
-unfolding freshOf freshNumber
+unfolding freshOf
 fresh-within n origin =
     outcome-within (freshNumber n origin) (freshNet n origin) (freshNet 1 0)
     (fresh-net-within 1 0 (freshNet 1 0) (fresh-effect 1 0) (size-free 1 0 (omega arith) (omega arith) (omega arith)))
-    (λ e. fresh-net-within n origin (freshNet n origin) (fresh-effect n origin) (one-test (sizeFault n origin) 2 e))
+    (λ e. fresh-net-within n origin (freshNet n origin) (fresh-effect n origin) (fresh-accepted n origin e))
 
 -- ---- change and grade
 
 module _ (x : Net) (w : Within x) (s r c : ℕ) (z : Net) (f : ChangeEffect x s r c z) where
-  changed-pair : pairFault (x .nodes) s r ≡ false → (a b : ℕ) → SamePair a b s r ⊎ (SamePair a b s r → ⊥) → 0 < z .cost a b → pairFault (x .nodes) a b ≡ false
+  changed-pair : pairFault (x .nodes) s r ≡ false → (a b : ℕ) → SamePair a b s r ⊎ (SamePair a b s r → ⊥) → 0 < z .cost a b →
+      pairFault (x .nodes) a b ≡ false
   changed-pair e a b (inl k) h = rw (k .0, k .1) e
   changed-pair e a b (inr k) h = w .arc-pair a b (omega (arith, f .cost-else a b k))
 
@@ -83,7 +75,8 @@ module _ (x : Net) (w : Within x) (s r c : ℕ) (z : Net) (f : ChangeEffect x s 
   changed-cost h a b (inr k) = omega (arith, f .cost-else a b k, w .arc-cost a b)
 
   -- what the changed pair holds it held before, and over an arc that stays
-  changed-here : (d l : ℕ) → (x .cost s r ≡ 0) ⊎ (x .cost s r ≢ 0) → (c ≡ 0) ⊎ (c ≢ 0) → z .held s r ≡ told d l → reportFault (x .nodes) (z .cost s r) s d l ≡ false
+  changed-here : (d l : ℕ) → (x .cost s r ≡ 0) ⊎ (x .cost s r ≢ 0) → (c ≡ 0) ⊎ (c ≢ 0) → z .held s r ≡ told d l →
+      reportFault (x .nodes) (z .cost s r) s d l ≡ false
   changed-here d l (inl k) j q = empty-told (z .held s r) (f .held-new k) q
   changed-here d l (inr k) (inl j) q = empty-told (z .held s r) (f .held-removed j) q
   changed-here d l (inr k) (inr j) q =
@@ -91,7 +84,8 @@ module _ (x : Net) (w : Within x) (s r c : ℕ) (z : Net) (f : ChangeEffect x s 
       report-free (x .nodes) (z .cost s r) s d l
       (record { arc = omega (arith, j, f .cost-here); label = old .label; bits = old .bits; own = old .own })
 
-  changed-report : (a b d l : ℕ) → SamePair a b s r ⊎ (SamePair a b s r → ⊥) → z .held a b ≡ told d l → reportFault (x .nodes) (z .cost a b) a d l ≡ false
+  changed-report : (a b d l : ℕ) → SamePair a b s r ⊎ (SamePair a b s r → ⊥) → z .held a b ≡ told d l →
+      reportFault (x .nodes) (z .cost a b) a d l ≡ false
   changed-report a b d l (inl k) q =
       rw (k .0, k .1) (changed-here d l (eq-or-ne (x .cost s r) 0) (eq-or-ne c 0) (rw (k .0, k .1) at q))
   changed-report a b d l (inr k) q = rw (f .cost-else a b k) (w .report-form a b d l (sym (f .held-else a b k) ∙ q))
@@ -110,16 +104,23 @@ module _ (x : Net) (w : Within x) (s r c : ℕ) (z : Net) (f : ChangeEffect x s 
       }
 
 pub change-within : (x : Net) → Within x → (s r c : ℕ) → Within (changeOf x s r c .net)
-unfolding changeOf changeNumber
-change-within x w s r c =
-    outcome-within (changeNumber x s r c) (changed x s r c) x w
-    (λ e. let k = or-neither (pairFault (x .nodes) s r) (costFault c) (one-test (pairFault (x .nodes) s r || costFault c) 2 e) in changed-within x w s r c (changed x s r c) (change-effect x s r c) (k .0) (cost-says c (k .1)))
+unfolding changeOf
+change-within x w s r c = outcome-within (changeNumber x s r c) (changed x s r c) x w next
+  where
+    next : changeNumber x s r c ≡ 0 → Within (changed x s r c)
+    next e =
+        let k = change-accepted x s r c e in
+        changed-within x w s r c (changed x s r c) (change-effect x s r c) (k .0) (cost-says c (k .1))
 
 pub grade-within : (x : Net) → Within x → (s r g : ℕ) → Within (gradeOf x s r g .net)
-unfolding gradeOf gradeNumber
-grade-within x w s r g =
-    outcome-within (gradeNumber x s r g) (changed x s r (gradeCost g)) x w
-    (λ e. let k = or-neither (pairFault (x .nodes) s r) (gradeFault g) (one-test (pairFault (x .nodes) s r || gradeFault g) 2 e) in changed-within x w s r (gradeCost g) (changed x s r (gradeCost g)) (change-effect x s r (gradeCost g)) (k .0) (grade-small g))
+unfolding gradeOf
+grade-within x w s r g = outcome-within (gradeNumber x s r g) (changed x s r c) x w next
+  where
+    c : ℕ
+    c = gradeCost g
+
+    next : gradeNumber x s r g ≡ 0 → Within (changed x s r c)
+    next e = changed-within x w s r c (changed x s r c) (change-effect x s r c) (grade-accepted x s r g e .0) (grade-small g)
 
 -- ---- rounds
 
@@ -166,10 +167,13 @@ module _ (x : Net) (w : Within x) (y d p l : ℕ) (z : Net) (f : PlaceRowEffect 
       }
 
 pub place-row-within : (x : Net) → Within x → (y d p l : ℕ) → Within (placeRowOf x y d p l .net)
-unfolding placeRowOf placeRowNumber
-place-row-within x w y d p l =
-    outcome-within (placeRowNumber x y d p l) (withRow x y (via d p l)) x w
-    (λ e. let k = two-tests (nodeFault (x .nodes) y) (rowFault (x .nodes) (x .origin) y d p l) 2 4 e in placed-row-within x w y d p l (withRow x y (via d p l)) (place-row-effect x y (via d p l)) (k .0) (k .1))
+unfolding placeRowOf
+place-row-within x w y d p l = outcome-within (placeRowNumber x y d p l) (withRow x y (via d p l)) x w next
+  where
+    next : placeRowNumber x y d p l ≡ 0 → Within (withRow x y (via d p l))
+    next e =
+        let k = place-row-accepted x y d p l e in
+        placed-row-within x w y d p l (withRow x y (via d p l)) (place-row-effect x y (via d p l)) (k .0) (k .1)
 
 module _ (x : Net) (w : Within x) (s r d l : ℕ) (z : Net) (f : PlaceReportEffect x s r (told d l) z) where
   placed-form : reportFault (x .nodes) (x .cost s r) s d l ≡ false → (a b e k : ℕ) → z .held a b ≡ told e k →
@@ -196,7 +200,10 @@ module _ (x : Net) (w : Within x) (s r d l : ℕ) (z : Net) (f : PlaceReportEffe
       }
 
 pub place-report-within : (x : Net) → Within x → (s r d l : ℕ) → Within (placeReportOf x s r d l .net)
-unfolding placeReportOf placeReportNumber
-place-report-within x w s r d l =
-    outcome-within (placeReportNumber x s r d l) (withHeld x s r (told d l)) x w
-    (λ e. let k = two-tests (pairFault (x .nodes) s r) (reportFault (x .nodes) (x .cost s r) s d l) 2 4 e in placed-report-within x w s r d l (withHeld x s r (told d l)) (place-report-effect x s r (told d l)) (k .1))
+unfolding placeReportOf
+place-report-within x w s r d l = outcome-within (placeReportNumber x s r d l) (withHeld x s r (told d l)) x w next
+  where
+    next : placeReportNumber x s r d l ≡ 0 → Within (withHeld x s r (told d l))
+    next e =
+        placed-report-within x w s r d l (withHeld x s r (told d l)) (place-report-effect x s r (told d l))
+        (place-report-accepted x s r d l e .1)

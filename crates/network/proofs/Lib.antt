@@ -4,6 +4,7 @@ pub mod FaultLaws
 pub mod Limits
 pub mod Grades
 pub mod Effects
+pub mod Accepting
 pub mod Marking
 pub mod Distinct
 pub mod RoundLimits
