@@ -9,3 +9,6 @@ pub mod Genuine
 pub mod Standing
 pub mod Converging
 pub mod Rounds
+pub mod CallLaws
+pub mod Stretches
+pub mod Theorem

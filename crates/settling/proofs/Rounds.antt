@@ -1,6 +1,6 @@
 -- Networks one after the other by rounds with heard marks are a run, as a held report is no older than its arc's last mark; so their rows settle.
 -- Assumes nothing.
-use mathlib.Core.Path.{_≡_, refl, sym, ap, ap₂, subst, _∙_}
+use mathlib.Core.Path.{_≡_, refl, sym, ap, ap₂, subst, subst₂, _∙_}
 use mathlib.Core.Bool.{Bool, true, false}
 use mathlib.Core.Logic.{_⊎_, inl, inr, _≢_}
 use Prim.Native.Nat.{ℕ, zero, suc, _+_, _*_, _-_, _<_, _≤_}
@@ -13,6 +13,7 @@ use Rattle.network.specs.Round.{Marks, report, choice}
 use Rattle.network.proofs.Effects.{RoundEffect}
 use Rattle.network.proofs.Limits.{within-size, within-arc, RowWithin, within-row, ReportWithin, within-report}
 use Rattle.settling.specs.Settled.{Route, Settled, Real}
+use Rattle.settling.specs.Calls.{AllReal, AllSettled}
 use Rattle.settling.proofs.Reports.{told-row}
 use Rattle.settling.proofs.Routes.{Ends, route-short, route-cost}
 use Rattle.settling.proofs.Run.{Run}
@@ -47,15 +48,15 @@ module _ (x : Net) (within : Within x) where
 
 module _ (marks : ℕ → Marks) (net : ℕ → Net) (T : ℕ) (rounds : Rounds marks net T) where
   -- rounds leave nodes, origin and costs
-  pub same-nodes : (t : ℕ) → t ≤ T → net t .nodes ≡ net 0 .nodes
+  same-nodes : (t : ℕ) → t ≤ T → net t .nodes ≡ net 0 .nodes
   same-nodes zero b = refl
   same-nodes (suc t) b = rounds .effect t (omega arith) .nodes ∙ same-nodes t (omega arith)
 
-  pub same-origin : (t : ℕ) → t ≤ T → net t .origin ≡ net 0 .origin
+  same-origin : (t : ℕ) → t ≤ T → net t .origin ≡ net 0 .origin
   same-origin zero b = refl
   same-origin (suc t) b = rounds .effect t (omega arith) .origin ∙ same-origin t (omega arith)
 
-  pub same-cost : (t : ℕ) → t ≤ T → net t .cost ≡ net 0 .cost
+  same-cost : (t : ℕ) → t ≤ T → net t .cost ≡ net 0 .cost
   same-cost zero b = refl
   same-cost (suc t) b = rounds .effect t (omega arith) .cost ∙ same-cost t (omega arith)
 
@@ -125,9 +126,13 @@ module _ (marks : ℕ → Marks) (net : ℕ → Net) (T : ℕ) (rounds : Rounds 
         }
 
     -- after (n - 1) W rounds every label is the cost of a real route
-    pub rounds-real : (net 0 .nodes - 1) * W ≤ T → (y : ℕ) → y < net 0 .nodes → Real (net 0 .cost) (net 0 .origin) y (net T .row y)
-    rounds-real = all-real run
+    pub rounds-real : (net 0 .nodes - 1) * W ≤ T → AllReal (net T)
+    rounds-real a y b =
+        subst₂ (λ (c : ℕ → ℕ → ℕ) (o : ℕ). Real c o y (net T .row y)) (sym (same-cost T (omega arith))) (sym (same-origin T (omega arith)))
+        (all-real run a y (omega (arith, same-nodes T (omega arith))))
 
     -- after (2 n - 3) W rounds every row is the settled row
-    pub rounds-settled : (2 * net 0 .nodes - 3) * W ≤ T → (y : ℕ) → y < net 0 .nodes → Settled (net 0 .cost) (net 0 .origin) y (net T .row y)
-    rounds-settled = all-settled run
+    pub rounds-settled : (2 * net 0 .nodes - 3) * W ≤ T → AllSettled (net T)
+    rounds-settled a y b =
+        subst₂ (λ (c : ℕ → ℕ → ℕ) (o : ℕ). Settled c o y (net T .row y)) (sym (same-cost T (omega arith))) (sym (same-origin T (omega arith)))
+        (all-settled run a y (omega (arith, same-nodes T (omega arith))))
