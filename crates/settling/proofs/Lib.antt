@@ -12,3 +12,4 @@ pub mod Rounds
 pub mod CallLaws
 pub mod Stretches
 pub mod Theorem
+pub mod Computed
