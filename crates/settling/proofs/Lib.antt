@@ -13,3 +13,4 @@ pub mod CallLaws
 pub mod Stretches
 pub mod Theorem
 pub mod Computed
+pub mod Tight
