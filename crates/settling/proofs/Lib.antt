@@ -14,3 +14,4 @@ pub mod Stretches
 pub mod Theorem
 pub mod Computed
 pub mod Tight
+pub mod Example

@@ -1,22 +1,22 @@
 -- (n - 1) W accepted rounds cannot be lowered by one: a field of three nodes whose rows are not all real after one round less.
 -- Assumes nothing.
-use mathlib.Core.Path.{_≡_, refl, sym, ap, subst, _∙_}
-use mathlib.Core.Bool.{Bool, true, false, cond, not, _&&_, _||_}
+use mathlib.Core.Path.{_≡_, refl, subst}
+use mathlib.Core.Bool.{Bool, true, false, cond, _&&_}
 use mathlib.Core.List.{List, [], _∷_}
-use Prim.Native.Nat.{ℕ, zero, suc, _+_, _*_, _-_, _/_, _%_, _^_, _<_, _≤_}
+use Prim.Native.Nat.{ℕ, _*_, _-_, _<_, _≤_}
 use native.Mathlib.Nat.{mul-le-mul-right}
 use native.Mathlib.Omega.{arith}
-use lib.Dec.{eqb, ltb, leb}
-use lib.ListN.{length, getD, replicate}
+use lib.Dec.{eqb}
+use lib.ListN.{replicate}
 use Rattle.ancestors.specs.Ancestors.{has, put}
 use Rattle.network.specs.Faults.{sizeFault, pairFault, costFault, reportLabelFault, listFault, arcFault, reportFault}
-use Rattle.network.specs.Network.{Row, via, Net, setPair, withCost, withHeld, outcome, freshNet, freshNumber, freshOf, placeReportNumber, placeReportOf, Within}
+use Rattle.network.specs.Network.{via, Net, setPair, withCost, withHeld, outcome, freshNet, freshNumber, freshOf, placeReportNumber, placeReportOf, Within}
 use Rattle.network.specs.Round.{report, hear, offer, against, winner, listOf, rowBy, choice, renewTo, renew, marked, some, strayMark, idleMark, roundNumber, roundOf, round as playRound}
 use Rattle.network.specs.Change.{changed, changeNumber, changeOf}
 use Rattle.network.proofs.Limits.{within-size, within-arc}
 use Rattle.network.proofs.Keeping.{fresh-within, change-within, place-report-within}
-use Rattle.settling.specs.Settled.{Route, Real, relay-label}
-use Rattle.settling.specs.Calls.{Call, round, called, accepted, alters, after, marksThen, rounds, unmarked, AllReal, Supposed, atEnd, roundsHeard}
+use Rattle.settling.specs.Settled.{Real, relay-label}
+use Rattle.settling.specs.Calls.{Call, round, called, accepted, after, marksThen, rounds, AllReal, Supposed, atEnd, roundsHeard}
 use Rattle.settling.proofs.Routes.{Ends, route-cost, route-short}
 use Rattle.settling.proofs.CallLaws.{after-within}
 use Rattle.settling.proofs.Computed.{still, unheard, missed, supposed-by}
@@ -55,7 +55,10 @@ record Facts : Type 0 where
   row-two : atEnd field [] stretch .row 2 ≡ via 9 1 7
 
 facts : Facts
-unfolding field stretch has put sizeFault pairFault costFault reportLabelFault listFault arcFault reportFault setPair withCost withHeld outcome freshNet freshNumber freshOf placeReportNumber placeReportOf report hear offer against winner listOf rowBy choice renewTo renew marked some strayMark idleMark roundNumber roundOf playRound changed changeNumber changeOf called accepted after marksThen rounds still unheard missed
+unfolding field stretch has put sizeFault pairFault costFault reportLabelFault listFault arcFault reportFault setPair withCost withHeld
+    outcome freshNet freshNumber freshOf placeReportNumber placeReportOf report hear offer against winner listOf rowBy choice renewTo
+    renew marked some strayMark idleMark roundNumber roundOf playRound changed changeNumber changeOf called accepted after marksThen
+    rounds still unheard missed
 facts =
     record {
       still = refl;
