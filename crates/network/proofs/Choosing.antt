@@ -1,4 +1,5 @@
--- What a chosen row says of the reports it was made from, and what the reports say of it. Only this file opens `rowBy`, `listOf` and `choice`.
+-- What a chosen row says of the reports it was made from, and what the reports say of it. Only this file and computed
+-- examples open `rowBy`, `listOf` and `choice`.
 -- Assumes nothing.
 use mathlib.Core.Path.{_≡_, refl, sym, ap, ap₂, _∙_}
 use mathlib.Core.Bool.{false}
@@ -16,7 +17,7 @@ use Rattle.network.proofs.Offers.{nothing-sum, made, makes, before-once
 pub use Rattle.network.proofs.Offers.{Made, Before}
 
 module _ (n : ℕ) (cost : ℕ → ℕ) (held : ℕ → Report) (y : ℕ) where
-  -- a row with a route comes from the report of its predecessor
+  -- sender p's report makes y the row of label d, predecessor p and list l
   pub record Came (d p l : ℕ) : Type 0 where
     pub below : p < n
     pub offered : Made y (cost p) (held p) d
@@ -26,6 +27,7 @@ module _ (n : ℕ) (cost : ℕ → ℕ) (held : ℕ → Report) (y : ℕ) where
   abbrev offered-by : ℕ → Offer
   offered-by s = offer y (cost s) (held s)
 
+  -- the same of whoever won, before the choice is put together
   came-from : (s u : ℕ) → s < n → Made y (cost s) (held s) u → Came u s (put (listOf (held s)) y)
   unfolding listOf
   came-from s u b m = record { below = b; offered = m; list = rw (m .is) }
@@ -57,6 +59,7 @@ module _ (n : ℕ) (cost : ℕ → ℕ) (held : ℕ → Report) (y : ℕ) where
           rw (k, same, h)
       go (inr k) = absurd (before-once (best r u below k (made y (cost r) (held r) u its)) (low s (e + cost s) b (λ j. k (sym j)) q))
 
+  -- a chosen row with a route comes from the report of its predecessor
   pub came : (d p l : ℕ) → choice n cost held y ≡ via d p l → Came d p l
   unfolding choice
   came d p l e = came-by (winner offered-by n) (won offered-by n) d p l e

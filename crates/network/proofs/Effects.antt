@@ -1,4 +1,4 @@
--- What each call does to a network, one law each. Files above cite these and open none of the definitions named here.
+-- What each call does to a network, one law each: files above cite these laws and not the definitions.
 -- Assumes nothing.
 use mathlib.Core.Path.{_≡_, refl, _∙_}
 use mathlib.Core.Bool.{true, false, cond, _&&_, _||_, or-true, and-false}
@@ -33,6 +33,7 @@ accepted-net k next x e = rw (eq-eqb k 0 e)
 
 -- ---- a value set at a node or a pair
 
+-- the pair a, b is the pair s, r
 abbrev pub SamePair : ℕ → ℕ → ℕ → ℕ → Type 0
 SamePair a b s r = (a ≡ s) × (b ≡ r)
 
@@ -135,6 +136,7 @@ grade-effect x s r g h = rw (grade-free g h, cost-free (gradeCost g) (grade-smal
 
 -- ---- the fresh network
 
+-- z has no arcs, and no routes but the origin's
 pub record FreshEffect (n origin : ℕ) (z : Net) : Type 0 where
   pub nodes : z .nodes ≡ n
   pub origin-is : z .origin ≡ origin

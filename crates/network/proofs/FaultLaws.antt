@@ -1,4 +1,4 @@
--- What it means in numbers that a fault is absent, and that it is absent from the facts. Only this file opens the faults.
+-- The faults in numbers: NAME-says gives the facts from a fault's absence, NAME-free its absence from the facts.
 -- Assumes nothing.
 use mathlib.Core.Path.{_≡_}
 use mathlib.Core.Bool.{true, false, not, _||_}
@@ -116,7 +116,7 @@ pub arc-free : (c : ℕ) → 0 < c → arcFault c ≡ false
 unfolding arcFault
 arc-free c h = ne-eqb c 0 (λ e. omega arith)
 
--- ---- the first test of a list: a bit not below n
+-- ---- the first test of a list says that it has a bit not below n
 
 module _ (n l : ℕ) where
   pub list-bits-low : leb (2 ^ n) l ≡ false → (i : ℕ) → n ≤ i → has l i ≡ false

@@ -9,8 +9,7 @@ use native.Mathlib.Omega.{arith}
 use Rattle.ancestors.specs.Ancestors.{own}
 use Rattle.ancestors.proofs.Cases.{eq-or-ne}
 use Rattle.network.specs.Faults.{maxCost, sizeFault, nodeFault, pairFault, rowFault, reportFault}
-use Rattle.network.specs.Network.{root, via, told, Net, Within, outcome, freshNet, freshNumber, freshOf, placeRowNumber, placeRowOf, placeReportNumber, placeReportOf}
-use Rattle.network.specs.Network.{withRow, withHeld}
+use Rattle.network.specs.Network.{root, via, told, Net, Within, outcome, freshNet, freshNumber, freshOf, placeRowNumber, placeRowOf, placeReportNumber, placeReportOf, withRow, withHeld}
 use Rattle.network.specs.Round.{marked, round, roundNumber, roundOf, everyArc, fullRoundOf}
 use Rattle.network.specs.Change.{changed, changeNumber, changeOf, gradeCost, gradeNumber, gradeOf}
 use Rattle.network.proofs.Distinct.{root-via, none-root, none-via, empty-told}
@@ -34,6 +33,7 @@ outcome-within k next x w f = go (eq-or-ne k 0)
 
 -- ---- fresh
 
+-- without arcs and routes there is nothing but the size to test
 fresh-net-within : (n origin : ℕ) (z : Net) → FreshEffect n origin z → sizeFault n origin ≡ false → Within z
 fresh-net-within n origin z f e =
     record {
@@ -65,6 +65,7 @@ fresh-within n origin =
 -- ---- change and grade
 
 module _ (x : Net) (w : Within x) (s r c : ℕ) (z : Net) (f : ChangeEffect x s r c z) where
+  -- an arc after the change is the changed one, or was there before
   changed-pair : pairFault (x .nodes) s r ≡ false → (a b : ℕ) → SamePair a b s r ⊎ (SamePair a b s r → ⊥) → 0 < z .cost a b →
       pairFault (x .nodes) a b ≡ false
   changed-pair e a b (inl k) h = rw (k .0, k .1) e
@@ -149,6 +150,7 @@ module _ (x : Net) (w : Within x) (y d p l : ℕ) (z : Net) (f : PlaceRowEffect 
           new i (cc) (cc) (cc)
       go (inr i) = old (sym (f .row-else a i) ∙ h)
 
+  -- the placed row is not the origin's
   placed-origin : (a k : ℕ) → z .row a ≡ root k → (a ≡ y) ⊎ (a ≢ y) → a ≡ x .origin
   placed-origin a k h (inl i) = root-via (z .row a) h (ap (z .row) i ∙ f .row-here)
   placed-origin a k h (inr i) = w .origin-only a k (sym (f .row-else a i) ∙ h)
@@ -176,6 +178,7 @@ place-row-within x w y d p l = outcome-within (placeRowNumber x y d p l) (withRo
         placed-row-within x w y d p l (withRow x y (via d p l)) (place-row-effect x y (via d p l)) (k .0) (k .1)
 
 module _ (x : Net) (w : Within x) (s r d l : ℕ) (z : Net) (f : PlaceReportEffect x s r (told d l) z) where
+  -- a report that z holds is the one placed, or of x
   placed-form : reportFault (x .nodes) (x .cost s r) s d l ≡ false → (a b e k : ℕ) → z .held a b ≡ told e k →
       SamePair a b s r ⊎ (SamePair a b s r → ⊥) → reportFault (x .nodes) (x .cost a b) a e k ≡ false
   placed-form form a b e k h (inl i) =

@@ -1,4 +1,4 @@
--- Tests below a bound, and the marks of an accepted round: every one lies on an arc. Only this file opens `some` and `marked`.
+-- Tests below a bound, and the marks of an accepted round: every one lies on an arc.
 -- Assumes nothing.
 use mathlib.Core.Path.{_≡_, refl, ap₂, subst}
 use mathlib.Core.Bool.{Bool, true, false, cond, not, _&&_, _||_, or-true}

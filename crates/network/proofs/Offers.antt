@@ -1,4 +1,4 @@
--- What an offer says of its report, and who wins among offers. Only this file opens `offer`, `against` and `winner`.
+-- What an offer says of its report, and who wins among offers. Only this file and computed examples open `offer`, `against` and `winner`.
 -- Assumes nothing.
 use mathlib.Core.Path.{_≡_, refl, ap₂}
 use mathlib.Core.Bool.{true, false, cond}
@@ -30,6 +30,7 @@ pub record Made (y c : ℕ) (h : Report) (v : ℕ) : Type 0 where
 pub nothing-sum : {A : Type 0} {v : ℕ} (o : Offer) → o ≡ Nothing → o ≡ Sum v → A
 nothing-sum o p q = let z : _≡_ {A = ℕ} 0 1 = cc in absurd (omega arith)
 
+-- a sum comes from a report that makes it
 pub made : (y c : ℕ) (h : Report) (v : ℕ) → offer y c h ≡ Sum v → Made y c h v
 unfolding offer
 made y c empty v e = nothing-sum Nothing refl e
@@ -43,6 +44,7 @@ made y c (told d l) v e = go (bool-cases (has l y)) (bool-cases (ltb maxLabel (d
         let t : v ≡ d + c = cc in
         record { label = d; list = l; is = refl; apart = h; total = t; fits = omega (arith, ltb-false maxLabel (d + c) b) }
 
+-- and such a report makes its sum
 pub makes : (y c d l : ℕ) → has l y ≡ false → d + c ≤ maxLabel → offer y c (told d l) ≡ Sum (d + c)
 unfolding offer
 makes y c d l h f = rw (h, le-ltb maxLabel (d + c) f)
@@ -74,6 +76,7 @@ module _ (f : ℕ → Offer) where
       go (inl e) = p e
       go (inr e) = h (omega (arith, e))
 
+  -- a sender makes one sum
   same-sum : (r n v x : ℕ) → r ≡ n → f n ≡ Sum v → f r ≡ Sum x → v ≡ x
   same-sum r n v x e p q = cc
 
@@ -107,6 +110,7 @@ module _ (f : ℕ → Offer) where
       last x r k z (inl a) = inr (omega (arith, more), omega arith)
       last x r k z (inr a) = inl (omega arith)
 
+  -- sender n's offer o is looked at after w won below n
   won-step : (n : ℕ) (w : Winner) → Won f n w → (o : Offer) → f n ≡ o → Won f (suc n) (against w n o)
   unfolding against
   won-step n nobody (no-one h) Nothing e = no-one (λ r c. below-or-last n r c (h r) (λ k. rw k e))
@@ -116,6 +120,7 @@ module _ (f : ℕ → Offer) where
       some-one {s = s} (omega arith) q (λ r x c ne h. below-or-last n r c (λ c′. low r x c′ ne h) (λ k. nothing-sum (f r) (rw k e) h))
   won-step n (sender s u) (some-one b q low) (Sum v) e = two-sums n s u v b q low e (bool-cases (ltb v u))
 
+  -- who wins below n
   pub won : (n : ℕ) → Won f n (winner f n)
   unfolding winner
   won zero = no-one (λ r b. absurd (omega arith))

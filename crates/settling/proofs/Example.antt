@@ -17,7 +17,7 @@ use Rattle.settling.proofs.CallLaws.{after-within}
 use Rattle.settling.proofs.Computed.{still, unheard, missed, supposed-by}
 use Rattle.settling.proofs.Theorem.{settling}
 
--- document 01's four-node field without rows, built by calls
+-- document 01's four-node field but for the arc from 1 to 0, built by calls, with no routes
 abbrev arcs : Net
 arcs =
     let a = changeOf (changeOf (freshOf 4 0 .net) 0 1 1 .net) 0 3 4 .net in
@@ -32,7 +32,7 @@ field = placeReportOf (placeRowOf (placeRowOf arcs 1 3 2 6 .net) 2 2 1 6 .net) 0
 unfoldable pub before : List Call
 before = fullRound ∷ change 0 1 0 ∷ change 0 3 70000 ∷ []
 
--- marks on one half of the arcs, and on the other half
+-- word r has bit s: marks on one half of the arcs, and on the other half
 abbrev half : List ℕ
 half = 0 ∷ 4 ∷ 8 ∷ 1 ∷ replicate 28 0
 
@@ -58,6 +58,7 @@ record Facts : Type 0 where
   still : still (after field before) stretch ≡ true
   heard : missed (after field before .nodes) 2 (after field before .cost) (rounds (after field before) stretch) ≡ false
   count : roundsHeard field before stretch ≡ 2 * (field .nodes - 1) * 2
+  -- node 1's route goes by 3 and 2
   row-one : atEnd field before stretch .row 1 ≡ via 6 2 15
 
 facts : Facts
