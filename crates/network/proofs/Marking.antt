@@ -34,6 +34,18 @@ some-not f k i e h = go (bool-cases (f i))
     go (inl q) = never (some f k) (some-here f k i h q) e
     go (inr q) = q
 
+-- if one does, here it is
+pub some-find : (f : ℕ → Bool) (k : ℕ) → some f k ≡ true → (i : ℕ) × (i < k) × (f i ≡ true)
+unfolding some
+some-find f zero e = never false e refl
+some-find f (suc k) e = go (bool-cases (f k)) (bool-cases (some f k)) (some-find f k)
+  where
+    go : (f k ≡ true) ⊎ (f k ≡ false) → (some f k ≡ true) ⊎ (some f k ≡ false) → (some f k ≡ true → (i : ℕ) × (i < k) × (f i ≡ true)) →
+        (i : ℕ) × (i < suc k) × (f i ≡ true)
+    go (inl q) h again = (k, omega arith, q)
+    go (inr q) (inl h) again = let b = again h in (b .0, omega arith, b .2)
+    go (inr q) (inr h) again = never false (rw (h, q) at e) refl
+
 pub some-none : (f : ℕ → Bool) (k : ℕ) → ((i : ℕ) → i < k → f i ≡ false) → some f k ≡ false
 unfolding some
 some-none f zero e = refl

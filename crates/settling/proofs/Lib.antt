@@ -12,3 +12,6 @@ pub mod Rounds
 pub mod CallLaws
 pub mod Stretches
 pub mod Theorem
+pub mod Computed
+pub mod Tight
+pub mod Example
