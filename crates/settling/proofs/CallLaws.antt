@@ -37,6 +37,7 @@ called-outcome x (grade s r g) = refl
 called-outcome x (round ms) = refl
 called-outcome x fullRound = refl
 
+-- and its number is the outcome's
 called-number : (x : Net) (c : Call) → called x c .number ≡ number x c
 called-number x c = ap (λ (o : Outcome). o .number) (called-outcome x c) ∙ outcome-number (number x c) (next x c) x
 
@@ -83,12 +84,13 @@ called-within x w (grade s r g) = grade-within x w s r g
 called-within x w (round ms) = round-within x w ms
 called-within x w fullRound = full-round-within x w
 
--- so it is after a list of calls
+-- a list of calls leaves the nodes
 pub after-nodes : (x : Net) (cs : List Call) → after x cs .nodes ≡ x .nodes
 unfolding after
 after-nodes x [] = refl
 after-nodes x (c ∷ cs) = after-nodes (called x c .net) cs ∙ called-nodes x c
 
+-- and keeps a network within limits
 pub after-within : (x : Net) → Within x → (cs : List Call) → Within (after x cs)
 unfolding after
 after-within x w [] = w

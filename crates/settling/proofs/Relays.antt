@@ -13,13 +13,15 @@ use Rattle.ancestors.proofs.Counting.{count-le, count-more}
 use Rattle.ancestors.proofs.Laws.{has-put-same, has-kept}
 
 -- i is a relay in the list l
-unfoldable pub relay : ℕ → ℕ → ℕ → Bool
+relay : ℕ → ℕ → ℕ → Bool
 relay origin l i = not (eqb i origin) && has l i
 
+-- a listed node other than the origin is one
 relay-true : (origin l i : ℕ) → has l i ≡ true → i ≢ origin → relay origin l i ≡ true
 unfolding relay
 relay-true origin l i h ne = rw (ne-eqb i origin ne) h
 
+-- and the origin is none
 relay-origin : (origin l : ℕ) → relay origin l origin ≡ false
 unfolding relay
 relay-origin origin l = rw (eqb-same origin)

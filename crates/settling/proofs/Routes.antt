@@ -35,7 +35,7 @@ module _ (cost : ℕ → ℕ → ℕ) (origin : ℕ) where
   route-hops r = omega (arith, route-ones r)
 
   -- a node of a route's list has a walk that costs no more than the route
-  pub route-listed : {s k d l : ℕ} → Route cost origin s k d l → (y : ℕ) → has l y ≡ true → (e : ℕ) × (e ≤ d) × Walk cost origin y e
+  route-listed : {s k d l : ℕ} → Route cost origin s k d l → (y : ℕ) → has l y ≡ true → (e : ℕ) × (e ≤ d) × Walk cost origin y e
   route-listed start y h = (0, omega arith, rw (has-own origin y h) here)
   route-listed (onward {s = s} {d = d} {l = l} {y = z} r arc apart) y h = go (eq-or-ne z y) (λ g. route-listed r y g)
     where

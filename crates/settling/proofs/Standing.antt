@@ -21,7 +21,7 @@ use Rattle.settling.proofs.Genuine.{genuine-offer}
 
 module _ (cost : ℕ → ℕ → ℕ) (origin : ℕ) where
   -- the settled predecessor's offer goes before that of every other walk
-  pub before-others : (s e y : ℕ) → Predecessor cost origin y s → Least cost origin y (e + cost s y) →
+  before-others : (s e y : ℕ) → Predecessor cost origin y s → Least cost origin y (e + cost s y) →
       (r v : ℕ) → r ≢ s → Walk cost origin r v → 0 < cost r y → Before (e + cost s y) s (v + cost r y) r
   before-others s e y p m r v ne w arc = go (eq-or-ne (e + cost s y) (v + cost r y))
     where
