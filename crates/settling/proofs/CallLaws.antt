@@ -1,14 +1,13 @@
--- What a call of a list does: refused it leaves the network, accepted it gives the next one. Only here do `changeOf`, `gradeOf`, `roundOf` and
--- `fullRoundOf` open, each to the outcome that it is.
+-- What a call of a list does: refused it leaves the network, accepted it gives the next one. Only in `called-outcome` do `changeOf`, `gradeOf`,
+-- `roundOf` and `fullRoundOf` open, each to the outcome that it is.
 -- Assumes nothing.
-use mathlib.Core.Path.{_≡_, refl, sym, ap, subst, _∙_}
-use mathlib.Core.Bool.{Bool, true, false, cond, _&&_}
+use mathlib.Core.Path.{_≡_, refl, sym, ap, _∙_}
+use mathlib.Core.Bool.{Bool, true, false, _&&_}
 use mathlib.Core.List.{List, [], _∷_}
-use mathlib.Core.Logic.{_⊎_, inl, inr, _≢_}
+use mathlib.Core.Logic.{_⊎_, inl, inr}
 use Prim.Native.Nat.{ℕ}
-use lib.Dec.{eqb}
-use borrow.Author.Tests.{eqb-true, eqb-false}
-use Rattle.ancestors.proofs.Cases.{bool-cases, never}
+use borrow.Author.Tests.{eqb-true, eqb-false, eq-eqb}
+use Rattle.ancestors.proofs.Cases.{bool-cases}
 use Rattle.network.specs.Network.{Net, Outcome, outcome, Within}
 use Rattle.network.specs.Round.{Marks, marked, everyArc, roundNumber, roundOf, fullRoundOf, round as roundWith}
 use Rattle.network.specs.Change.{changed, changeNumber, changeOf, gradeCost, gradeNumber, gradeOf}
@@ -16,40 +15,52 @@ use Rattle.network.proofs.Effects.{outcome-number, refused-net, accepted-net, r
 use Rattle.network.proofs.Keeping.{change-within, grade-within, round-within, full-round-within}
 use Rattle.settling.specs.Calls.{Call, change, grade, round, fullRound, called, accepted, after, alters, marksThen}
 
+-- the number that a call answers
+number : Net → Call → ℕ
+number x (change s r c) = changeNumber x s r c
+number x (grade s r g) = gradeNumber x s r g
+number x (round ms) = roundNumber x ms
+number x fullRound = 0
+
 -- the network that an accepted call gives
-unfoldable pub next : Net → Call → Net
+next : Net → Call → Net
 next x (change s r c) = changed x s r c
 next x (grade s r g) = changed x s r (gradeCost g)
 next x (round ms) = roundWith (marked ms) x
 next x fullRound = roundWith (everyArc x) x
 
-as-outcome : (k : ℕ) (z x : Net) → outcome k z x ≡ outcome (outcome k z x .number) z x
-as-outcome k z x = ap (λ (i : ℕ). outcome i z x) (sym (outcome-number k z x))
+-- every call answers an outcome
+called-outcome : (x : Net) (c : Call) → called x c ≡ outcome (number x c) (next x c) x
+unfolding called number next changeOf gradeOf roundOf fullRoundOf
+called-outcome x (change s r c) = refl
+called-outcome x (grade s r g) = refl
+called-outcome x (round ms) = refl
+called-outcome x fullRound = refl
 
-called-outcome : (x : Net) (c : Call) → called x c ≡ outcome (called x c .number) (next x c) x
-unfolding called next changeOf gradeOf roundOf fullRoundOf
-called-outcome x (change s r c) = as-outcome (changeNumber x s r c) (changed x s r c) x
-called-outcome x (grade s r g) = as-outcome (gradeNumber x s r g) (changed x s r (gradeCost g)) x
-called-outcome x (round ms) = as-outcome (roundNumber x ms) (roundWith (marked ms) x) x
-called-outcome x fullRound = as-outcome 0 (roundWith (everyArc x) x) x
+-- and its number is the outcome's
+called-number : (x : Net) (c : Call) → called x c .number ≡ number x c
+called-number x c = ap (λ (o : Outcome). o .number) (called-outcome x c) ∙ outcome-number (number x c) (next x c) x
 
 -- a refused call leaves the network
-pub called-refused : (x : Net) (c : Call) → accepted x c ≡ false → called x c .net ≡ x
+called-refused : (x : Net) (c : Call) → accepted x c ≡ false → called x c .net ≡ x
 unfolding accepted
 called-refused x c e =
-    ap (λ (o : Outcome). o .net) (called-outcome x c) ∙ refused-net (called x c .number) (next x c) x (eqb-false (called x c .number) 0 e)
+    ap (λ (o : Outcome). o .net) (called-outcome x c) ∙
+    refused-net (number x c) (next x c) x (λ z. eqb-false (called x c .number) 0 e (called-number x c ∙ z))
 
 -- an accepted call gives the next one
-pub called-accepted : (x : Net) (c : Call) → accepted x c ≡ true → called x c .net ≡ next x c
+called-accepted : (x : Net) (c : Call) → accepted x c ≡ true → called x c .net ≡ next x c
 unfolding accepted
 called-accepted x c e =
-    ap (λ (o : Outcome). o .net) (called-outcome x c) ∙ accepted-net (called x c .number) (next x c) x (eqb-true (called x c .number) 0 e)
+    ap (λ (o : Outcome). o .net) (called-outcome x c) ∙
+    accepted-net (number x c) (next x c) x (sym (called-number x c) ∙ eqb-true (called x c .number) 0 e)
 
 -- a round with every arc heard is always accepted
 full-accepted : (x : Net) → accepted x fullRound ≡ true
-unfolding accepted called fullRoundOf
-full-accepted x = ap (λ (k : ℕ). eqb k 0) (outcome-number 0 (roundWith (everyArc x) x) x)
+unfolding accepted number
+full-accepted x = eq-eqb (called x fullRound .number) 0 (called-number x fullRound)
 
+-- an accepted call leaves the nodes
 next-nodes : (x : Net) (c : Call) → next x c .nodes ≡ x .nodes
 unfolding next
 next-nodes x (change s r c) = change-effect x s r c .nodes
@@ -57,8 +68,8 @@ next-nodes x (grade s r g) = change-effect x s r (gradeCost g) .nodes
 next-nodes x (round ms) = round-effect (marked ms) x .nodes
 next-nodes x fullRound = round-effect (everyArc x) x .nodes
 
--- no call changes the nodes
-pub called-nodes : (x : Net) (c : Call) → called x c .net .nodes ≡ x .nodes
+-- every call leaves the nodes
+called-nodes : (x : Net) (c : Call) → called x c .net .nodes ≡ x .nodes
 called-nodes x c = go (bool-cases (accepted x c))
   where
     go : (accepted x c ≡ true) ⊎ (accepted x c ≡ false) → called x c .net .nodes ≡ x .nodes
@@ -73,32 +84,36 @@ called-within x w (grade s r g) = grade-within x w s r g
 called-within x w (round ms) = round-within x w ms
 called-within x w fullRound = full-round-within x w
 
+-- a list of calls leaves the nodes
 pub after-nodes : (x : Net) (cs : List Call) → after x cs .nodes ≡ x .nodes
 unfolding after
 after-nodes x [] = refl
 after-nodes x (c ∷ cs) = after-nodes (called x c .net) cs ∙ called-nodes x c
 
+-- and keeps a network within limits
 pub after-within : (x : Net) → Within x → (cs : List Call) → Within (after x cs)
 unfolding after
 after-within x w [] = w
 after-within x w (c ∷ cs) = after-within (called x c .net) (called-within x w c) cs
 
--- a call of a stretch leaves the network, or is one round with some marks
-pub data Done (x : Net) (c : Call) : Type 0 where
-  nothing : called x c .net ≡ x → ((ms : List Marks) → marksThen x c ms ≡ ms) → Done x c
-  one-round : (m : Marks) → called x c .net ≡ roundWith m x → ((ms : List Marks) → marksThen x c ms ≡ m ∷ ms) → Done x c
+-- a call of a stretch leaves the network and adds no marks, or is one round and adds its marks
+pub data CallEffect (x : Net) (c : Call) : Type 0 where
+  no-effect : called x c .net ≡ x → ((ms : List Marks) → marksThen x c ms ≡ ms) → CallEffect x c
+  one-round : (m : Marks) → called x c .net ≡ roundWith m x → ((ms : List Marks) → marksThen x c ms ≡ m ∷ ms) → CallEffect x c
 
+-- a call that alters is refused
 refused-alters : (a : Bool) → (a && true) ≡ false → a ≡ false
 refused-alters true e = e
 refused-alters false e = e
 
-pub done : (x : Net) (c : Call) → (accepted x c && alters c) ≡ false → Done x c
+-- no change or grade is accepted in a stretch, so each of its calls is such a call
+pub call-effect : (x : Net) (c : Call) → (accepted x c && alters c) ≡ false → CallEffect x c
 unfolding marksThen next
-done x (change s r c) e = nothing (called-refused x (change s r c) (refused-alters (accepted x (change s r c)) e)) (λ ms. refl)
-done x (grade s r g) e = nothing (called-refused x (grade s r g) (refused-alters (accepted x (grade s r g)) e)) (λ ms. refl)
-done x (round ws) e = go (bool-cases (accepted x (round ws)))
+call-effect x (change s r c) e = no-effect (called-refused x (change s r c) (refused-alters (accepted x (change s r c)) e)) (λ ms. refl)
+call-effect x (grade s r g) e = no-effect (called-refused x (grade s r g) (refused-alters (accepted x (grade s r g)) e)) (λ ms. refl)
+call-effect x (round ws) e = go (bool-cases (accepted x (round ws)))
   where
-    go : (accepted x (round ws) ≡ true) ⊎ (accepted x (round ws) ≡ false) → Done x (round ws)
+    go : (accepted x (round ws) ≡ true) ⊎ (accepted x (round ws) ≡ false) → CallEffect x (round ws)
     go (inl a) = one-round (marked ws) (called-accepted x (round ws) a) (λ ms. rw a)
-    go (inr a) = nothing (called-refused x (round ws) a) (λ ms. rw a)
-done x fullRound e = one-round (everyArc x) (called-accepted x fullRound (full-accepted x)) (λ ms. refl)
+    go (inr a) = no-effect (called-refused x (round ws) a) (λ ms. rw a)
+call-effect x fullRound e = one-round (everyArc x) (called-accepted x fullRound (full-accepted x)) (λ ms. refl)

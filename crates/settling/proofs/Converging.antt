@@ -2,18 +2,17 @@
 -- Assumes nothing.
 use mathlib.Core.Path.{_≡_, refl, sym, ap, subst, _∙_}
 use mathlib.Core.Logic.{_⊎_, inl, inr, _≢_}
-use Prim.Native.Nat.{ℕ, zero, suc, _+_, _*_, _-_, _<_, _≤_}
+use Prim.Native.Nat.{ℕ, suc, _+_, _*_, _-_, _<_, _≤_}
 use native.Mathlib.Omega.{arith}
 use native.Mathlib.Nat.{mul-le-mul-right}
-use Rattle.ancestors.specs.Ancestors.{own}
 use Rattle.ancestors.proofs.Cases.{eq-or-ne}
-use Rattle.network.specs.Network.{Row, none, root, via, Report, empty, told}
+use Rattle.network.specs.Network.{Row, none, root, via, told}
 use Rattle.network.specs.Round.{report}
-use Rattle.settling.specs.Settled.{Walk, Route, start, Settled, fixed, unreached, reached, Real, no-label, origin-label, relay-label}
-use Rattle.settling.proofs.Reports.{report-root, report-via}
+use Rattle.settling.specs.Settled.{Walk, Settled, fixed, unreached, Real, no-label, origin-label, relay-label}
+use Rattle.settling.proofs.Reports.{root-told, via-told}
 use Rattle.settling.proofs.Routes.{route-walk, route-short}
 use Rattle.settling.proofs.SettledBy.{SettledBy, by-route, by-relay, by-settled}
-use Rattle.settling.proofs.Existing.{Found, found}
+use Rattle.settling.proofs.Existing.{found}
 use Rattle.settling.proofs.Run.{Run, no-root}
 use Rattle.settling.proofs.Genuine.{Genuine, genuine}
 use Rattle.settling.proofs.Standing.{stands}
@@ -30,8 +29,8 @@ module _ (run : Run) where
 
       go : (w : Row) → row T y ≡ w → Real cost origin y w
       go none e = no-label
-      go (root l) e = origin-label (real 0 l (ap report e ∙ report-root l) .1)
-      go (via d p l) e = relay-label (real d l (ap report e ∙ report-via d p l) .1)
+      go (root l) e = origin-label (real 0 l (root-told e) .1)
+      go (via d p l) e = relay-label (real d l (via-told e) .1)
 
   module _ (long : (2 * n - 3) * W ≤ T) where
     -- a settled route has at most n - 1 arcs, so by then every settled row stands
@@ -42,13 +41,15 @@ module _ (run : Run) where
         stands run x T (omega (arith, mul-le-mul-right W few)) (omega arith)
 
     -- where a walk leads, the row has a route and is the settled one
-    reached-row : (y d : ℕ) → y ≢ origin → y < n → Walk cost origin y d → (e p l : ℕ) × (row T y ≡ via e p l) × Settled cost origin y (row T y)
+    reached-row : (y d : ℕ) → y ≢ origin → y < n → Walk cost origin y d →
+        (e p l : ℕ) × (row T y ≡ via e p l) × Settled cost origin y (row T y)
     reached-row y d relay b walk =
         let f = found n origin cost (run .ends) y d walk in
         let r = by-relay cost origin relay (f .1 .by) in
         let e : row T y ≡ f .1 .row = row-settled relay b (f .1 .by) in
         (f .0, r .0, f .1 .list, e ∙ r .1, subst (Settled cost origin y) (sym e) (by-settled cost origin (f .1 .by)))
 
+    -- no route is settled where no walk leads, and a route is of a walk
     relay-settled : (y : ℕ) → y ≢ origin → y < n → Settled cost origin y (row T y)
     relay-settled y relay b = go (row T y) refl
       where
@@ -62,7 +63,7 @@ module _ (run : Run) where
         go none e = unreached (λ d walk. let x = reached-row y d relay b walk in let z : _≡_ {A = ℕ} 0 1 = cc (x .3) in omega arith)
         go (root l) e = absurd (no-root run T y l (omega (arith, mul-le-mul-right W one)) (omega arith) b relay e)
         go (via d p l) e =
-            let real = genuine run T y d l (omega (arith, mul-le-mul-right W less)) (omega arith) b (ap report e ∙ report-via d p l) in
+            let real = genuine run T y d l (omega (arith, mul-le-mul-right W less)) (omega arith) b (via-told e) in
             subst (Settled cost origin y) e (reached-row y d relay b (route-walk cost origin (real .1)) .4)
 
     -- after (2 n - 3) W rounds every row is the settled row

@@ -1,23 +1,24 @@
 -- Where a walk leads there is a least cost and a settled row: walks of a given cost are decided by recursion on the cost.
 -- Assumes nothing.
-use mathlib.Core.Path.{_≡_, refl, sym, ap, subst, _∙_}
+use mathlib.Core.Path.{_≡_, refl, sym, subst}
 use mathlib.Core.Logic.{_⊎_, inl, inr, _≢_}
 use Prim.Native.Nat.{ℕ, zero, suc, _+_, _-_, _<_, _≤_}
 use native.Mathlib.Omega.{arith}
 use native.Mathlib.Decide.{decLe, decLt, ℕ-discrete}
 use Rattle.ancestors.specs.Ancestors.{put, own}
 use Rattle.ancestors.proofs.Cases.{eq-or-ne, any-below, first}
-use Rattle.network.specs.Network.{Row, none, root, via}
-use Rattle.settling.specs.Settled.{Walk, here, along, Least, Tight, Settled}
+use Rattle.network.specs.Network.{Row, root, via}
+use Rattle.settling.specs.Settled.{Walk, here, along, Least, Tight, Predecessor, Settled}
 use Rattle.settling.proofs.Routes.{Ends, least-part}
 use Rattle.settling.proofs.Unique.{least-once}
-use Rattle.settling.proofs.SettledBy.{SettledBy, at-start, next, by-relay, by-settled}
+use Rattle.settling.proofs.SettledBy.{SettledBy, at-start, next, by-least, by-relay, by-settled}
 
 module _ (n origin : ℕ) (cost : ℕ → ℕ → ℕ) (ends : Ends n origin cost) where
   -- s is the last sender of a walk of cost d to y
   abbrev Last : ℕ → ℕ → ℕ → Type 0
   Last y d s = (0 < cost s y) × (cost s y ≤ d) × Walk cost origin s (d - cost s y)
 
+  -- and with it such a walk
   last-walk : (y d s : ℕ) → Last y d s → Walk cost origin y d
   last-walk y d s h = subst (λ (x : ℕ). Walk cost origin y x) (omega arith) (along (h .2) (h .0))
 
@@ -27,18 +28,20 @@ module _ (n origin : ℕ) (cost : ℕ → ℕ → ℕ) (ends : Ends n origin cos
   walk-last (along {s = s} {d = d} {y = y} w arc) =
       inr (s, (arc, omega arith, subst (λ (x : ℕ). Walk cost origin s x) (omega arith) w))
 
+  -- whether s is, where walks of lesser cost are decided
   decide-last : (y d s : ℕ) → ((x : ℕ) → x < d → Dec (Walk cost origin s x)) → Dec (Last y d s)
   decide-last y d s less = go (decLt 0 (cost s y)) (decLe (cost s y) d)
     where
       go : Dec (0 < cost s y) → Dec (cost s y ≤ d) → Dec (Last y d s)
       go (no h) k = no (λ r. h (r .0))
       go (yes h) (no k) = no (λ r. k (r .1))
-      go (yes h) (yes k) = sub (less (d - cost s y) (omega arith))
+      go (yes h) (yes k) = rest (less (d - cost s y) (omega arith))
         where
-          sub : Dec (Walk cost origin s (d - cost s y)) → Dec (Last y d s)
-          sub (yes w) = yes (h, k, w)
-          sub (no w) = no (λ r. w (r .2))
+          rest : Dec (Walk cost origin s (d - cost s y)) → Dec (Last y d s)
+          rest (yes w) = yes (h, k, w)
+          rest (no w) = no (λ r. w (r .2))
 
+  -- a walk of cost d below the fuel: the empty one, or one with a last sender below n
   decide-below : (fuel y d : ℕ) → d < fuel → Dec (Walk cost origin y d)
   decide-below zero y d h = absurd (omega arith)
   decide-below (suc fuel) y d h = go (any-below (Last y d) (λ s. decide-last y d s (λ x b. decide-below fuel s x (omega arith))) n)
@@ -79,6 +82,7 @@ module _ (n origin : ℕ) (cost : ℕ → ℕ → ℕ) (ends : Ends n origin cos
     pub row : Row
     pub by : SettledBy cost origin y arcs d list row
 
+  -- from the settled row of the lowest last sender
   extend : (y s e d : ℕ) → y ≢ origin → 0 < cost s y → e + cost s y ≡ d → Least cost origin y d → ((r : ℕ) → Last y d r → s ≤ r) →
       Found s e → Found y d
   extend y s e d ne arc q m low f =
@@ -87,9 +91,17 @@ module _ (n origin : ℕ) (cost : ℕ → ℕ → ℕ) (ends : Ends n origin cos
         arcs = suc (f .arcs);
         list = put (f .list) y;
         row = via (e + cost s y) s (put (f .list) y);
-        by = next ne (f .by) arc (subst (Least cost origin y) (sym q) m) (λ r t. low r (tight-last y d r m t));
+        by = next ne (f .by) predecessor;
       })
+    where
+      predecessor : Predecessor cost origin y s
+      predecessor =
+          record {
+            tight = record { arc = arc; before = e; sender-least = by-least cost origin (f .by); receiver-least = subst (Least cost origin y) (sym q) m };
+            lowest = λ r t. low r (tight-last y d r m t);
+          }
 
+  -- by recursion on the least cost, which falls along predecessors
   found-below : (fuel y d : ℕ) → d < fuel → Least cost origin y d → Found y d
   found-below zero y d h m = absurd (omega arith)
   found-below (suc fuel) y d h m = go (eq-or-ne y origin) (walk-last (m .walk)) (λ s e b k. found-below fuel s e b k)
@@ -99,7 +111,6 @@ module _ (n origin : ℕ) (cost : ℕ → ℕ → ℕ) (ends : Ends n origin cos
           let z : d ≡ 0 = omega (arith, m .least 0 (rw q here)) in
           rw (q, z) (record { arcs = 0; list = own origin; row = root (own origin); by = at-start })
 
-      -- the lowest last sender is the settled predecessor
       relay : y ≢ origin → (s : ℕ) × Last y d s × ((r : ℕ) → Last y d r → s ≤ r) →
           ((s e : ℕ) → e < fuel → Least cost origin s e → Found s e) → Found y d
       relay ne f before =

@@ -1,17 +1,16 @@
 -- After k W rounds a row is of a real route or lists more than k relays; so after (n - 1) W rounds every row and every offer is of a real route.
 -- Assumes nothing.
-use mathlib.Core.Path.{_≡_, refl, sym, ap, subst, _∙_}
-use mathlib.Core.Bool.{Bool, true, false}
+use mathlib.Core.Path.{_≡_, ap, subst}
 use mathlib.Core.Logic.{_⊎_, inl, inr, _≢_}
-use Prim.Native.Nat.{ℕ, zero, suc, _+_, _*_, _-_, _<_, _≤_}
+use Prim.Native.Nat.{ℕ, zero, suc, _*_, _-_, _<_, _≤_}
 use native.Mathlib.Omega.{arith}
-use Rattle.ancestors.specs.Ancestors.{has, put, own}
+use Rattle.ancestors.specs.Ancestors.{put, own}
 use Rattle.ancestors.proofs.Cases.{eq-or-ne}
-use Rattle.network.specs.Network.{Row, none, root, via, Report, empty, told}
+use Rattle.network.specs.Network.{told}
 use Rattle.network.specs.Round.{report}
-use Rattle.network.proofs.Choosing.{Made, Came}
+use Rattle.network.proofs.Choosing.{Came}
 use Rattle.settling.specs.Settled.{Route, start, onward}
-use Rattle.settling.proofs.Reports.{report-root}
+use Rattle.settling.proofs.Reports.{root-told}
 use Rattle.settling.proofs.Relays.{relays, relays-own, relays-put, relays-below}
 use Rattle.settling.proofs.Run.{Run, Offered, sent, source, told-by}
 
@@ -26,10 +25,11 @@ module _ (run : Run) where
   abbrev Claim : ℕ → Type 0
   Claim k = (t y d l : ℕ) → k * W ≤ t → t ≤ T → y < n → report (row t y) ≡ told d l → Genuine y d l ⊎ (k < relays n origin l)
 
+  -- what the origin's row reports is genuine
   origin-genuine : (t y d l : ℕ) → t ≤ T → y ≡ origin → report (row t y) ≡ told d l → Genuine y d l
   origin-genuine t y d l b e h =
       let r : report (row t origin) ≡ told d l = rw e at h in
-      let s : report (row t origin) ≡ told 0 (own origin) = ap report (run .origin-row t b) ∙ report-root (own origin) in
+      let s : report (row t origin) ≡ told 0 (own origin) = root-told (run .origin-row t b) in
       let ed : 0 ≡ d = cc in
       let el : own origin ≡ l = cc in
       (0, rw (e, ← ed, ← el) start)
@@ -47,6 +47,7 @@ module _ (run : Run) where
       let arc : 0 < cost s y = run .on-arc t s y (m .label) (m .list) b (m .is) in
       (suc (g .0), rw (m .total) (onward (g .1) arc (m .apart)))
 
+  -- W rounds later a row that is not genuine lists one relay more
   later : (k : ℕ) → Claim k → Claim (suc k)
   later k claim t y d l a b c h = go (eq-or-ne y origin)
     where
@@ -67,6 +68,7 @@ module _ (run : Run) where
           let p = told-by run t y d l w b c ne h in
           chosen ne (p .0) (source run t y d (p .0) l w b c ne (p .1))
 
+  -- the claim holds for every k; at first a row lists its own relay
   claimed : (k : ℕ) → Claim k
   claimed zero t y d l a b c h = go (eq-or-ne y origin)
     where

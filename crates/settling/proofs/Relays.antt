@@ -1,9 +1,9 @@
 -- The relays of an ancestor list, counted: all its nodes but the origin.
 -- Assumes nothing.
-use mathlib.Core.Path.{_≡_, refl, sym, ap, subst, _∙_}
+use mathlib.Core.Path.{_≡_, refl}
 use mathlib.Core.Bool.{Bool, true, false, not, _&&_}
-use mathlib.Core.Logic.{_⊎_, inl, inr, _≢_}
-use Prim.Native.Nat.{ℕ, zero, suc, _+_, _<_, _≤_}
+use mathlib.Core.Logic.{_≢_}
+use Prim.Native.Nat.{ℕ, _<_}
 use native.Mathlib.Omega.{arith}
 use lib.Dec.{eqb}
 use borrow.Author.Tests.{ne-eqb, not-true}
@@ -13,13 +13,15 @@ use Rattle.ancestors.proofs.Counting.{count-le, count-more}
 use Rattle.ancestors.proofs.Laws.{has-put-same, has-kept}
 
 -- i is a relay in the list l
-unfoldable pub relay : ℕ → ℕ → ℕ → Bool
+relay : ℕ → ℕ → ℕ → Bool
 relay origin l i = not (eqb i origin) && has l i
 
+-- a listed node other than the origin is one
 relay-true : (origin l i : ℕ) → has l i ≡ true → i ≢ origin → relay origin l i ≡ true
 unfolding relay
 relay-true origin l i h ne = rw (ne-eqb i origin ne) h
 
+-- and the origin is none
 relay-origin : (origin l : ℕ) → relay origin l origin ≡ false
 unfolding relay
 relay-origin origin l = rw (eqb-same origin)

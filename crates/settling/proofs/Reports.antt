@@ -1,19 +1,19 @@
 -- What a row reports. Only here does `report` open.
 -- Assumes nothing.
-use mathlib.Core.Path.{_≡_, refl}
+use mathlib.Core.Path.{_≡_, ap}
 use mathlib.Core.Logic.{_⊎_, inl, inr}
 use Prim.Native.Nat.{ℕ}
 use native.Mathlib.Omega.{arith}
-use Rattle.network.specs.Network.{Row, none, root, via, Report, empty, told}
+use Rattle.network.specs.Network.{Row, none, root, via, told}
 use Rattle.network.specs.Round.{report}
 
-pub report-root : (l : ℕ) → report (root l) ≡ told 0 l
+pub root-told : {w : Row} {l : ℕ} → w ≡ root l → report w ≡ told 0 l
 unfolding report
-report-root l = refl
+root-told e = ap report e
 
-pub report-via : (d p l : ℕ) → report (via d p l) ≡ told d l
+pub via-told : {w : Row} {d p l : ℕ} → w ≡ via d p l → report w ≡ told d l
 unfolding report
-report-via d p l = refl
+via-told e = ap report e
 
 -- a report that is not empty is of a row with a route
 pub told-row : (w : Row) (d l : ℕ) → report w ≡ told d l → ((w ≡ root l) × (0 ≡ d)) ⊎ ((p : ℕ) × (w ≡ via d p l))

@@ -1,17 +1,17 @@
 -- Networks one after the other by rounds with heard marks are a run, as a held report is no older than its arc's last mark; so their rows settle.
 -- Assumes nothing.
-use mathlib.Core.Path.{_≡_, refl, sym, ap, ap₂, subst, subst₂, _∙_}
-use mathlib.Core.Bool.{Bool, true, false}
+use mathlib.Core.Path.{_≡_, refl, sym, ap₂, subst, subst₂, _∙_}
+use mathlib.Core.Bool.{true, false}
 use mathlib.Core.Logic.{_⊎_, inl, inr, _≢_}
 use Prim.Native.Nat.{ℕ, zero, suc, _+_, _*_, _-_, _<_, _≤_}
 use native.Mathlib.Omega.{arith}
 use Rattle.ancestors.specs.Ancestors.{has, own}
 use Rattle.ancestors.proofs.Cases.{eq-or-ne, bool-cases, never}
 use Rattle.network.specs.Faults.{maxCost, maxLabel}
-use Rattle.network.specs.Network.{Row, none, root, via, Report, empty, told, Net, Within}
+use Rattle.network.specs.Network.{root, via, told, Net, Within}
 use Rattle.network.specs.Round.{Marks, report, choice}
 use Rattle.network.proofs.Effects.{RoundEffect}
-use Rattle.network.proofs.Limits.{within-size, within-arc, RowWithin, within-row, ReportWithin, within-report}
+use Rattle.network.proofs.Limits.{within-size, within-arc, within-row, within-report}
 use Rattle.settling.specs.Settled.{Route, Settled, Real}
 use Rattle.settling.specs.Calls.{AllReal, AllSettled}
 use Rattle.settling.proofs.Reports.{told-row}
@@ -19,12 +19,13 @@ use Rattle.settling.proofs.Routes.{Ends, route-short, route-cost}
 use Rattle.settling.proofs.Run.{Run}
 use Rattle.settling.proofs.Converging.{all-real, all-settled}
 
--- T rounds with the marks of round t at marks t, and net t the network after t of them
+-- T rounds: round t has the marks marks t, and net t is the network after t rounds
 pub record Rounds (marks : ℕ → Marks) (net : ℕ → Net) (T : ℕ) : Type 0 where
   pub effect : (t : ℕ) → t < T → RoundEffect (marks t) (net t) (net (suc t))
   pub within : (t : ℕ) → t ≤ T → Within (net t)
 
 module _ (x : Net) (within : Within x) where
+  -- the ends of arcs are nodes
   within-ends : Ends (x .nodes) (x .origin) (x .cost)
   within-ends =
       record {
@@ -39,6 +40,7 @@ module _ (x : Net) (within : Within x) where
       let short : k < x .nodes = route-short (x .cost) (x .origin) (x .nodes) within-ends r in
       omega (arith, within-size x within .1, route-cost (x .cost) (x .origin) maxCost (within .arc-cost) r)
 
+  -- a relay's row lists the relay
   within-own : (y d l : ℕ) → y ≢ x .origin → report (x .row y) ≡ told d l → has l y ≡ true
   within-own y d l ne h = go (told-row (x .row y) d l h)
     where
@@ -60,6 +62,7 @@ module _ (marks : ℕ → Marks) (net : ℕ → Net) (T : ℕ) (rounds : Rounds 
   same-cost zero b = refl
   same-cost (suc t) b = rounds .effect t (omega arith) .cost ∙ same-cost t (omega arith)
 
+  -- the facts of a run, one by one
   origin-row : (t : ℕ) → t ≤ T → net t .row (net 0 .origin) ≡ root (own (net 0 .origin))
   origin-row t b = subst (λ (o : ℕ). net t .row o ≡ root (own o)) (same-origin t b) (rounds .within t b .origin-row)
 
@@ -81,6 +84,7 @@ module _ (marks : ℕ → Marks) (net : ℕ → Net) (T : ℕ) (rounds : Rounds 
   abbrev Since : ℕ → ℕ → ℕ → ℕ → Type 0
   Since j t s y = (u : ℕ) × (j ≤ u) × (u < t) × (net t .held s y ≡ report (net u .row s))
 
+  -- once heard in round j, a report is of a row no older than round j's
   since : (j s y : ℕ) → marks j s y ≡ true → (t : ℕ) → j < t → t ≤ T → Since j t s y
   since j s y m zero h b = absurd (omega arith)
   since j s y m (suc t) h b = go (bool-cases (marks t s y)) (λ a. since j s y m t a (omega arith))

@@ -1,13 +1,13 @@
 -- Walks and real routes apart from any round: their lengths, costs and lists.
 -- Assumes nothing.
 use mathlib.Core.Path.{_≡_, refl, sym, ap, subst, _∙_}
-use mathlib.Core.Bool.{Bool, true, false}
+use mathlib.Core.Bool.{true, false}
 use mathlib.Core.Logic.{_⊎_, inl, inr, _≢_}
-use Prim.Native.Nat.{ℕ, zero, suc, _+_, _*_, _-_, _<_, _≤_}
+use Prim.Native.Nat.{ℕ, suc, _+_, _*_, _<_, _≤_}
 use native.Mathlib.Omega.{arith}
 use lib.Count.{ones}
 use Rattle.ancestors.specs.Ancestors.{has, put, own, hops, count}
-use Rattle.ancestors.proofs.Cases.{eq-or-ne, le-or-lt, bool-cases, never}
+use Rattle.ancestors.proofs.Cases.{eq-or-ne, bool-cases, never}
 use Rattle.ancestors.proofs.Counting.{count-le, count-more}
 use Rattle.ancestors.proofs.Laws.{has-put-same, has-put-other, has-kept, has-own, ones-put, ones-own}
 use Rattle.settling.specs.Settled.{Walk, here, along, Route, start, onward, Least}
@@ -24,21 +24,23 @@ module _ (cost : ℕ → ℕ → ℕ) (origin : ℕ) where
   route-walk start = here
   route-walk (onward r arc apart) = along (route-walk r) arc
 
+  -- a route's list has one node more than the route has arcs
   route-ones : {y k d l : ℕ} → Route cost origin y k d l → ones l ≡ suc k
   route-ones start = ones-own origin
   route-ones (onward {l = l} {y = y} r arc apart) = ones-put l y apart ∙ ap suc (route-ones r)
 
-  -- a route's list has one node more than the route has arcs: its hops are its arcs
+  -- so its hops are its arcs
   pub route-hops : {y k d l : ℕ} → Route cost origin y k d l → hops l ≡ k
   unfolding hops
   route-hops r = omega (arith, route-ones r)
 
   -- a node of a route's list has a walk that costs no more than the route
-  pub route-listed : {s k d l : ℕ} → Route cost origin s k d l → (y : ℕ) → has l y ≡ true → (e : ℕ) × (e ≤ d) × Walk cost origin y e
+  route-listed : {s k d l : ℕ} → Route cost origin s k d l → (y : ℕ) → has l y ≡ true → (e : ℕ) × (e ≤ d) × Walk cost origin y e
   route-listed start y h = (0, omega arith, rw (has-own origin y h) here)
   route-listed (onward {s = s} {d = d} {l = l} {y = z} r arc apart) y h = go (eq-or-ne z y) (λ g. route-listed r y g)
     where
-      go : (z ≡ y) ⊎ (z ≢ y) → (has l y ≡ true → (e : ℕ) × (e ≤ d) × Walk cost origin y e) → (e : ℕ) × (e ≤ d + cost s z) × Walk cost origin y e
+      go : (z ≡ y) ⊎ (z ≢ y) → (has l y ≡ true → (e : ℕ) × (e ≤ d) × Walk cost origin y e) →
+          (e : ℕ) × (e ≤ d + cost s z) × Walk cost origin y e
       go (inl q) before = (d + cost s z, omega arith, subst (λ (x : ℕ). Walk cost origin x (d + cost s z)) q (along (route-walk r) arc))
       go (inr q) before = let b = before (sym (has-put-other l z y q) ∙ h) in (b .0, omega arith, b .2)
 
@@ -60,6 +62,7 @@ module _ (cost : ℕ → ℕ → ℕ) (origin : ℕ) where
   route-cost c low (onward {s = s} {y = y} r arc apart) = omega (arith, route-cost c low r, low s y)
 
   module _ (n : ℕ) (ends : Ends n origin cost) where
+    -- a route of k arcs lists more than k nodes
     route-nodes : {y k d l : ℕ} → Route cost origin y k d l → k < count (has l) n
     route-nodes start =
         omega
@@ -71,6 +74,6 @@ module _ (cost : ℕ → ℕ → ℕ) (origin : ℕ) where
           count-more (has l) (has (put l y)) (has-kept l y) y apart (has-put-same l y) n (ends .receiver-node s y arc),
         )
 
-    -- a route has fewer arcs than there are nodes
+    -- so it has fewer arcs than there are nodes
     pub route-short : {y k d l : ℕ} → Route cost origin y k d l → k < n
     route-short {l = l} r = omega (arith, route-nodes r, count-le (has l) n)

@@ -1,20 +1,20 @@
 -- A run of rounds with lost reports, seen from outside: from round W on a relay's row is the choice among reports at most W rounds old.
 -- How marks and calls bring this about stays behind this record.
 -- Assumes nothing.
-use mathlib.Core.Path.{_≡_, refl, sym, ap, subst, _∙_}
-use mathlib.Core.Bool.{Bool, true, false}
+use mathlib.Core.Path.{_≡_, sym, _∙_}
+use mathlib.Core.Bool.{true}
 use mathlib.Core.Logic.{_⊎_, inl, inr, _≢_}
-use Prim.Native.Nat.{ℕ, zero, suc, _+_, _*_, _<_, _≤_}
-use native.Mathlib.Omega.{arith}
+use Prim.Native.Nat.{ℕ, _+_, _<_, _≤_}
 use Rattle.ancestors.specs.Ancestors.{has, own}
 use Rattle.network.specs.Faults.{maxLabel}
-use Rattle.network.specs.Network.{Row, none, root, via, Report, empty, told}
+use Rattle.network.specs.Network.{Row, root, via, Report, told}
 use Rattle.network.specs.Round.{report, choice}
 use Rattle.network.proofs.Choosing.{Made, Came, came, choice-no-root}
 use Rattle.settling.specs.Settled.{Route}
 use Rattle.settling.proofs.Reports.{told-row}
 use Rattle.settling.proofs.Routes.{Ends}
 
+-- the facts of a run that its theorems use
 pub record Run : Type 0 where
   -- the nodes, the origin and the present costs
   pub n : ℕ
@@ -44,7 +44,7 @@ pub record Run : Type 0 where
 module _ (run : Run) where
   open Run run using (n, origin, cost, W, T, row, held)
 
-  -- the report v that s offers y over their arc at round t
+  -- the report that y holds of s at round t makes the offer v
   abbrev pub Offered : ℕ → ℕ → ℕ → ℕ → Type 0
   Offered t s y v = Made y (cost s y) (held t s y) v
 

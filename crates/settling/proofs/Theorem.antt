@@ -1,14 +1,13 @@
 -- Demand 3 over lists of change, grade and round calls, and the sharper bound.
 -- Assumes nothing.
-use mathlib.Core.Path.{_≡_, refl, sym, ap, subst, _∙_}
+use mathlib.Core.Path.{sym, subst}
 use mathlib.Core.List.{List}
-use Prim.Native.Nat.{ℕ, _+_, _*_, _-_, _<_, _≤_}
+use Prim.Native.Nat.{ℕ, _*_, _-_, _≤_}
 use native.Mathlib.Omega.{arith}
 use native.Mathlib.Nat.{mul-le-mul-right}
 use lib.ListN.{length, getD}
 use Rattle.network.specs.Network.{Net, Within}
-use Rattle.network.proofs.Limits.{within-size}
-use Rattle.settling.specs.Calls.{Call, after, Stretch, rounds, unmarked, HeardWithin, AllSettled, AllReal, roundsHeard, Supposed, Promised, Settling, SettlingSooner}
+use Rattle.settling.specs.Calls.{Call, after, Stretch, rounds, unmarked, HeardWithin, AllSettled, AllReal, roundsHeard, Settling, SettlingSooner}
 use Rattle.settling.proofs.Rounds.{rounds-real, rounds-settled}
 use Rattle.settling.proofs.CallLaws.{after-nodes, after-within}
 use Rattle.settling.proofs.Stretches.{afterRounds, stretch-after, stretch-rounds}

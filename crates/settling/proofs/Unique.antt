@@ -1,12 +1,11 @@
 -- A node has at most one settled row, and a settled row with a route has a walk of its label's cost.
 -- Assumes nothing.
-use mathlib.Core.Path.{_≡_, refl, sym, ap, subst, subst₂, _∙_}
-use mathlib.Core.Logic.{_⊎_, inl, inr, _≢_}
-use Prim.Native.Nat.{ℕ, zero, suc, _+_, _<_, _≤_}
+use mathlib.Core.Path.{_≡_, refl, ap, subst}
+use Prim.Native.Nat.{ℕ}
 use native.Mathlib.Omega.{arith}
 use Rattle.ancestors.specs.Ancestors.{put}
-use Rattle.network.specs.Network.{Row, none, root, via}
-use Rattle.settling.specs.Settled.{Walk, here, along, Least, Tight, Predecessor, Ancestors, at-origin, behind, Settled, fixed, unreached, reached}
+use Rattle.network.specs.Network.{Row, via}
+use Rattle.settling.specs.Settled.{Walk, here, Least, Predecessor, Ancestors, at-origin, behind, Settled, fixed, unreached, reached}
 
 module _ (cost : ℕ → ℕ → ℕ) (origin : ℕ) where
   -- a node has one least cost
