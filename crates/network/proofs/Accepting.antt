@@ -1,0 +1,42 @@
+-- What it means that a call is accepted: its tests fail. (A round call's: Marking.)
+-- Assumes nothing.
+use mathlib.Core.Path.{_≡_, refl}
+use mathlib.Core.Bool.{Bool, true, false, cond, _||_}
+use Prim.Native.Nat.{ℕ, suc}
+use native.Mathlib.Omega.{arith}
+use Rattle.ancestors.proofs.Cases.{or-neither}
+use Rattle.network.specs.Faults.{sizeFault, nodeFault, pairFault, costFault, gradeFault, rowFault, reportFault}
+use Rattle.network.specs.Network.{Net, freshNumber, placeRowNumber, placeReportNumber}
+use Rattle.network.specs.Change.{changeNumber, gradeNumber}
+
+-- a call with one test, and a call with two
+one-test : (t : Bool) (k : ℕ) → cond t (suc k) 0 ≡ 0 → t ≡ false
+one-test true k e = absurd (omega arith)
+one-test false k e = refl
+
+two-tests : (a b : Bool) (j k : ℕ) → cond a (suc j) (cond b (suc k) 0) ≡ 0 → (a ≡ false) × (b ≡ false)
+two-tests true b j k e = absurd (omega arith)
+two-tests false true j k e = absurd (omega arith)
+two-tests false false j k e = (refl, refl)
+
+pub fresh-accepted : (n origin : ℕ) → freshNumber n origin ≡ 0 → sizeFault n origin ≡ false
+unfolding freshNumber
+fresh-accepted n origin e = one-test (sizeFault n origin) 2 e
+
+pub change-accepted : (x : Net) (s r c : ℕ) → changeNumber x s r c ≡ 0 → (pairFault (x .nodes) s r ≡ false) × (costFault c ≡ false)
+unfolding changeNumber
+change-accepted x s r c e = or-neither (pairFault (x .nodes) s r) (costFault c) (one-test (pairFault (x .nodes) s r || costFault c) 2 e)
+
+pub grade-accepted : (x : Net) (s r g : ℕ) → gradeNumber x s r g ≡ 0 → (pairFault (x .nodes) s r ≡ false) × (gradeFault g ≡ false)
+unfolding gradeNumber
+grade-accepted x s r g e = or-neither (pairFault (x .nodes) s r) (gradeFault g) (one-test (pairFault (x .nodes) s r || gradeFault g) 2 e)
+
+pub place-row-accepted : (x : Net) (y d p l : ℕ) → placeRowNumber x y d p l ≡ 0 →
+    (nodeFault (x .nodes) y ≡ false) × (rowFault (x .nodes) (x .origin) y d p l ≡ false)
+unfolding placeRowNumber
+place-row-accepted x y d p l e = two-tests (nodeFault (x .nodes) y) (rowFault (x .nodes) (x .origin) y d p l) 2 4 e
+
+pub place-report-accepted : (x : Net) (s r d l : ℕ) → placeReportNumber x s r d l ≡ 0 →
+    (pairFault (x .nodes) s r ≡ false) × (reportFault (x .nodes) (x .cost s r) s d l ≡ false)
+unfolding placeReportNumber
+place-report-accepted x s r d l e = two-tests (pairFault (x .nodes) s r) (reportFault (x .nodes) (x .cost s r) s d l) 2 4 e

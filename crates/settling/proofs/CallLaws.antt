@@ -1,0 +1,119 @@
+-- What a call of a list does: refused it leaves the network, accepted it gives the next one. Only in `called-outcome` do `changeOf`, `gradeOf`,
+-- `roundOf` and `fullRoundOf` open, each to the outcome that it is.
+-- Assumes nothing.
+use mathlib.Core.Path.{_≡_, refl, sym, ap, _∙_}
+use mathlib.Core.Bool.{Bool, true, false, _&&_}
+use mathlib.Core.List.{List, [], _∷_}
+use mathlib.Core.Logic.{_⊎_, inl, inr}
+use Prim.Native.Nat.{ℕ}
+use borrow.Author.Tests.{eqb-true, eqb-false, eq-eqb}
+use Rattle.ancestors.proofs.Cases.{bool-cases}
+use Rattle.network.specs.Network.{Net, Outcome, outcome, Within}
+use Rattle.network.specs.Round.{Marks, marked, everyArc, roundNumber, roundOf, fullRoundOf, round as roundWith}
+use Rattle.network.specs.Change.{changed, changeNumber, changeOf, gradeCost, gradeNumber, gradeOf}
+use Rattle.network.proofs.Effects.{outcome-number, refused-net, accepted-net, round-effect, change-effect}
+use Rattle.network.proofs.Keeping.{change-within, grade-within, round-within, full-round-within}
+use Rattle.settling.specs.Calls.{Call, change, grade, round, fullRound, called, accepted, after, alters, marksThen}
+
+-- the number that a call answers
+number : Net → Call → ℕ
+number x (change s r c) = changeNumber x s r c
+number x (grade s r g) = gradeNumber x s r g
+number x (round ms) = roundNumber x ms
+number x fullRound = 0
+
+-- the network that an accepted call gives
+next : Net → Call → Net
+next x (change s r c) = changed x s r c
+next x (grade s r g) = changed x s r (gradeCost g)
+next x (round ms) = roundWith (marked ms) x
+next x fullRound = roundWith (everyArc x) x
+
+-- every call answers an outcome
+called-outcome : (x : Net) (c : Call) → called x c ≡ outcome (number x c) (next x c) x
+unfolding called number next changeOf gradeOf roundOf fullRoundOf
+called-outcome x (change s r c) = refl
+called-outcome x (grade s r g) = refl
+called-outcome x (round ms) = refl
+called-outcome x fullRound = refl
+
+-- and its number is the outcome's
+called-number : (x : Net) (c : Call) → called x c .number ≡ number x c
+called-number x c = ap (λ (o : Outcome). o .number) (called-outcome x c) ∙ outcome-number (number x c) (next x c) x
+
+-- a refused call leaves the network
+called-refused : (x : Net) (c : Call) → accepted x c ≡ false → called x c .net ≡ x
+unfolding accepted
+called-refused x c e =
+    ap (λ (o : Outcome). o .net) (called-outcome x c) ∙
+    refused-net (number x c) (next x c) x (λ z. eqb-false (called x c .number) 0 e (called-number x c ∙ z))
+
+-- an accepted call gives the next one
+called-accepted : (x : Net) (c : Call) → accepted x c ≡ true → called x c .net ≡ next x c
+unfolding accepted
+called-accepted x c e =
+    ap (λ (o : Outcome). o .net) (called-outcome x c) ∙
+    accepted-net (number x c) (next x c) x (sym (called-number x c) ∙ eqb-true (called x c .number) 0 e)
+
+-- a round with every arc heard is always accepted
+full-accepted : (x : Net) → accepted x fullRound ≡ true
+unfolding accepted number
+full-accepted x = eq-eqb (called x fullRound .number) 0 (called-number x fullRound)
+
+-- an accepted call leaves the nodes
+next-nodes : (x : Net) (c : Call) → next x c .nodes ≡ x .nodes
+unfolding next
+next-nodes x (change s r c) = change-effect x s r c .nodes
+next-nodes x (grade s r g) = change-effect x s r (gradeCost g) .nodes
+next-nodes x (round ms) = round-effect (marked ms) x .nodes
+next-nodes x fullRound = round-effect (everyArc x) x .nodes
+
+-- every call leaves the nodes
+called-nodes : (x : Net) (c : Call) → called x c .net .nodes ≡ x .nodes
+called-nodes x c = go (bool-cases (accepted x c))
+  where
+    go : (accepted x c ≡ true) ⊎ (accepted x c ≡ false) → called x c .net .nodes ≡ x .nodes
+    go (inl e) = ap (λ (z : Net). z .nodes) (called-accepted x c e) ∙ next-nodes x c
+    go (inr e) = ap (λ (z : Net). z .nodes) (called-refused x c e)
+
+-- every call keeps a network within limits
+pub called-within : (x : Net) → Within x → (c : Call) → Within (called x c .net)
+unfolding called
+called-within x w (change s r c) = change-within x w s r c
+called-within x w (grade s r g) = grade-within x w s r g
+called-within x w (round ms) = round-within x w ms
+called-within x w fullRound = full-round-within x w
+
+-- a list of calls leaves the nodes
+pub after-nodes : (x : Net) (cs : List Call) → after x cs .nodes ≡ x .nodes
+unfolding after
+after-nodes x [] = refl
+after-nodes x (c ∷ cs) = after-nodes (called x c .net) cs ∙ called-nodes x c
+
+-- and keeps a network within limits
+pub after-within : (x : Net) → Within x → (cs : List Call) → Within (after x cs)
+unfolding after
+after-within x w [] = w
+after-within x w (c ∷ cs) = after-within (called x c .net) (called-within x w c) cs
+
+-- a call of a stretch leaves the network and adds no marks, or is one round and adds its marks
+pub data CallEffect (x : Net) (c : Call) : Type 0 where
+  no-effect : called x c .net ≡ x → ((ms : List Marks) → marksThen x c ms ≡ ms) → CallEffect x c
+  one-round : (m : Marks) → called x c .net ≡ roundWith m x → ((ms : List Marks) → marksThen x c ms ≡ m ∷ ms) → CallEffect x c
+
+-- a call that alters is refused
+refused-alters : (a : Bool) → (a && true) ≡ false → a ≡ false
+refused-alters true e = e
+refused-alters false e = e
+
+-- no change or grade is accepted in a stretch, so each of its calls is such a call
+pub call-effect : (x : Net) (c : Call) → (accepted x c && alters c) ≡ false → CallEffect x c
+unfolding marksThen next
+call-effect x (change s r c) e = no-effect (called-refused x (change s r c) (refused-alters (accepted x (change s r c)) e)) (λ ms. refl)
+call-effect x (grade s r g) e = no-effect (called-refused x (grade s r g) (refused-alters (accepted x (grade s r g)) e)) (λ ms. refl)
+call-effect x (round ws) e = go (bool-cases (accepted x (round ws)))
+  where
+    go : (accepted x (round ws) ≡ true) ⊎ (accepted x (round ws) ≡ false) → CallEffect x (round ws)
+    go (inl a) = one-round (marked ws) (called-accepted x (round ws) a) (λ ms. rw a)
+    go (inr a) = no-effect (called-refused x (round ws) a) (λ ms. rw a)
+call-effect x fullRound e = one-round (everyArc x) (called-accepted x fullRound (full-accepted x)) (λ ms. refl)

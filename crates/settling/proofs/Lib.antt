@@ -1,0 +1,17 @@
+pub mod Reports
+pub mod Unique
+pub mod Routes
+pub mod SettledBy
+pub mod Existing
+pub mod Relays
+pub mod Run
+pub mod Genuine
+pub mod Standing
+pub mod Converging
+pub mod Rounds
+pub mod CallLaws
+pub mod Stretches
+pub mod Theorem
+pub mod Computed
+pub mod Tight
+pub mod Example

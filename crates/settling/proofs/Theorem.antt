@@ -1,0 +1,48 @@
+-- Demand 3 over lists of change, grade and round calls, and the sharper bound.
+-- Assumes nothing.
+use mathlib.Core.Path.{sym, subst}
+use mathlib.Core.List.{List}
+use Prim.Native.Nat.{ℕ, _*_, _-_, _≤_}
+use native.Mathlib.Omega.{arith}
+use native.Mathlib.Nat.{mul-le-mul-right}
+use lib.ListN.{length, getD}
+use Rattle.network.specs.Network.{Net, Within}
+use Rattle.settling.specs.Calls.{Call, after, Stretch, rounds, unmarked, HeardWithin, AllSettled, AllReal, roundsHeard, Settling, SettlingSooner}
+use Rattle.settling.proofs.Rounds.{rounds-real, rounds-settled}
+use Rattle.settling.proofs.CallLaws.{after-nodes, after-within}
+use Rattle.settling.proofs.Stretches.{afterRounds, stretch-after, stretch-rounds}
+
+module _ (x : Net) (within : Within x) (cs : List Call) (W : ℕ) (positive : 1 ≤ W) (still : Stretch x cs) (heard : HeardWithin W (x .cost) (rounds x cs)) where
+  -- a stretch of (n - 1) W rounds ends with every label a real route's cost
+  stretch-real : (x .nodes - 1) * W ≤ length (rounds x cs) → AllReal (after x cs)
+  unfolding afterRounds
+  stretch-real a =
+      subst AllReal (sym (stretch-after still))
+      (rounds-real (λ t. getD (rounds x cs) t unmarked) (λ t. afterRounds t (rounds x cs) x) (length (rounds x cs)) (stretch-rounds still within)
+      W positive heard a)
+
+  -- a stretch of (2 n - 3) W rounds ends with every row settled
+  stretch-settled : (2 * x .nodes - 3) * W ≤ length (rounds x cs) → AllSettled (after x cs)
+  unfolding afterRounds
+  stretch-settled a =
+      subst AllSettled (sym (stretch-after still))
+      (rounds-settled (λ t. getD (rounds x cs) t unmarked) (λ t. afterRounds t (rounds x cs) x) (length (rounds x cs)) (stretch-rounds still within)
+      W positive heard a)
+
+-- rows are settled from (2 n - 3) W rounds of the stretch on
+pub settling-sooner : SettlingSooner
+settling-sooner x within before stretch W s a =
+    stretch-settled (after x before) (after-within x within before) stretch W (s .positive) (s .still) (s .heard)
+    (subst (λ (n : ℕ). (2 * n - 3) * W ≤ roundsHeard x before stretch) (sym (after-nodes x before)) a)
+
+-- demand 3 for every network within limits
+pub settling : Settling
+settling x within before stretch W s =
+    record {
+      settled = λ a. settling-sooner x within before stretch W s (omega (arith, mul-le-mul-right W (fewer (x .nodes))));
+      real = λ a. stretch-real (after x before) (after-within x within before) stretch W (s .positive) (s .still) (s .heard)
+          (subst (λ (n : ℕ). (n - 1) * W ≤ roundsHeard x before stretch) (sym (after-nodes x before)) a);
+    }
+  where
+    fewer : (n : ℕ) → 2 * n - 3 ≤ 2 * (n - 1)
+    fewer n = omega arith
