@@ -1,1 +1,6 @@
 mod Store
+mod Hearing
+mod Renewing
+mod Leaving
+mod Starting
+mod Changing

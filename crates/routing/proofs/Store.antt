@@ -83,6 +83,15 @@ module _ (n : ℕ) (f : ℕ → ℕ) (b : ℕ) where
   cell-out s r (inl h) = rw (le-ltb s n h)
   cell-out s r (inr h) = rw (le-ltb r n h, and-false (ltb s n))
 
+  -- words of 0
+  pub word-zero : (y : ℕ) → ((k : ℕ) → b ≤ k → f k ≡ 0) → word n f b y ≡ 0
+  word-zero y z = ⊎-elim (λ h. word-out y h) (λ h. word-in y h ∙ z (b + y) (omega arith)) (le-or-lt n y)
+
+  pub cell-zero : (s r : ℕ) → ((k : ℕ) → b ≤ k → f k ≡ 0) → cell n f b s r ≡ 0
+  cell-zero s r z =
+      ⊎-elim (λ h. cell-out s r (inl h))
+      (λ h. ⊎-elim (λ k. cell-out s r (inr k)) (λ k. cell-in s r h k ∙ z (b + (r * 32 + s)) (omega arith)) (le-or-lt n r)) (le-or-lt n s)
+
 -- a law of every word, or of every cell, may suppose that it is inside
 by-node : {A : Type 0} (n y : ℕ) → (y < n → A) → (n ≤ y → A) → A
 by-node n y p q = ⊎-elim (λ h. q h) (λ h. p h) (le-or-lt n y)
@@ -178,6 +187,15 @@ module _ (xs : List ℕ) where
   pub read-cost : (s r : ℕ) → s < view xs .nodes → r < view xs .nodes → look xs (128 + (r * 32 + s)) ≡ view xs .cost s r
   unfolding view netOf
   read-cost s r h k = sym (cell-in (min (look xs 0) 32) (look xs) 128 s r h k)
+
+  pub read-first : look xs 1 ≡ view xs .origin
+  unfolding view netOf
+  read-first = refl
+
+  -- what lies at nodes not below n plays no part
+  pub cost-beyond : (s r : ℕ) → (view xs .nodes ≤ s) ⊎ (view xs .nodes ≤ r) → view xs .cost s r ≡ 0
+  unfolding view netOf
+  cost-beyond s r h = cell-out (min (look xs 0) 32) (look xs) 128 s r h
 
   pub read-held : (s r : ℕ) → s < view xs .nodes → r < view xs .nodes
       → reportOf (look xs (1152 + (r * 32 + s))) (look xs (2176 + (r * 32 + s))) ≡ view xs .held s r

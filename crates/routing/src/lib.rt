@@ -317,11 +317,16 @@ fn renew_row(net: &mut [u32], n: usize, receiver: usize)
     requires { ⌜ receiver ≢ view (now net) .origin ⌝ }
     ensures { λ _. ⌜ view (now (net .exit)) ≡ withRow (view (now (net .entry))) receiver (choice n (λ s. view (now (net .entry)) .cost s receiver) (λ s. view (now (net .entry)) .held s receiver) receiver) ⌝ }
 {
-    let Choice::Route { label, predecessor, list } = choose_row(net, n, receiver) else {
-        store_row(net, receiver, 0, 0, 0);
-        return;
-    };
-    store_row(net, receiver, label, predecessor, list);
+    let row = choose_row(net, n, receiver);
+    match row {
+        Choice::Route {
+            label,
+            predecessor,
+            list,
+        } => store_row(net, receiver, label, predecessor, list),
+        Choice::NoRoute => store_row(net, receiver, 0, 0, 0),
+        Choice::Refused => store_row(net, receiver, 0, 0, 0),
+    }
 }
 
 fn renew_rows(net: &mut [u32], n: usize)

@@ -1,0 +1,151 @@
+-- Choosing from the words of a receiver, and renewing row by row, come to the second half of a round.
+-- Assumes nothing.
+use mathlib.Core.Path.{_≡_, refl, sym, ap, ap₂, subst, _∙_}
+use mathlib.Core.Bool.{Bool, true, false, cond, not, _&&_, _||_}
+use mathlib.Core.Logic.{_⊎_, inl, inr, _≢_}
+use mathlib.Core.List.{List}
+use Prim.Native.Nat.{ℕ, zero, suc, _+_, _-_, _*_, _<_, _≤_}
+use native.Mathlib.Omega.{arith}
+use lib.Dec.{eqb, ltb}
+use lib.ListN.{length, getD, take, drop, length-take, length-drop}
+use lib.Seq.{getD-take, getD-drop, length-take-le}
+use borrow.Author.Tests.{lt-ltb, le-ltb, lt-leb, eq-eqb, ne-eqb}
+use Rattle.ancestors.proofs.Cases.{eq-or-ne, eqb-same, ltb-other}
+use Rattle.ancestors.proofs.Laws.{put-some}
+use Rattle.network.specs.Network.{Row, none, root, via, Report, Net, setAt, withRow}
+use Rattle.network.specs.Round.{choice, renewTo, renew}
+use Rattle.network.specs.Words.{reports, costsOf, ChoiceAnswer, chosen, wordsFault, chooseOf, choiceMeans}
+use Rattle.network.specs.declared.Choice.{Choice}
+use Rattle.network.specs.declared.Choice.the-variants.{Refused, NoRoute, Route}
+use Rattle.network.proofs.Choosing.{choice-ext, came}
+use Rattle.routing.specs.Layout.{words, rowOf, look, view}
+use Rattle.routing.specs.Inner.{Node, Nodes}
+use Rattle.routing.proofs.Store.{same-net, few, read-cost, read-held}
+
+-- ---- the words of one receiver
+
+-- the n words from c on
+abbrev pub part : List ℕ → ℕ → ℕ → List ℕ
+part xs c n = take (c + n - c) (drop c xs)
+
+module _ (xs : List ℕ) (c n : ℕ) (h : c + n ≤ length xs) where
+  part-length : length (part xs c n) ≡ n
+  part-length = simp (length-take, length-drop) (omega arith)
+
+  part-at : (s : ℕ) → s < n → getD (part xs c n) s 0 ≡ look xs (c + s)
+  part-at s b = getD-take (c + n - c) (drop c xs) s 0 (omega arith) ∙ getD-drop c xs s 0
+
+-- y's choice from its words is its choice in the network
+module _ (xs : List ℕ) (size : length xs ≡ words) (n y : ℕ) (is : n ≡ view xs .nodes) (below : y < view xs .nodes) where
+  room : (b : ℕ) → b ≤ 2176 → b + y * 32 + n ≤ length xs
+  room b h = omega (arith, few xs)
+
+  abbrev costs : List ℕ
+  costs = part xs (128 + y * 32) n
+
+  abbrev labels : List ℕ
+  labels = part xs (1152 + y * 32) n
+
+  abbrev lists : List ℕ
+  lists = part xs (2176 + y * 32) n
+
+  cost-at : (s : ℕ) → s < n → costsOf costs s ≡ view xs .cost s y
+  cost-at s h = part-at xs (128 + y * 32) n (room 128 (omega arith)) s h ∙ ap (look xs) (omega arith) ∙ read-cost xs s y (omega arith) below
+
+  held-at : (s : ℕ) → s < n → reports labels lists s ≡ view xs .held s y
+  held-at s h =
+      ap₂ (λ d l. reportsOf d l) (part-at xs (1152 + y * 32) n (room 1152 (omega arith)) s h ∙ ap (look xs) (omega arith))
+      (part-at xs (2176 + y * 32) n (room 2176 (omega arith)) s h ∙ ap (look xs) (omega arith))
+      ∙ read-held xs s y (omega arith) below
+    where
+      reportsOf : ℕ → ℕ → Report
+      reportsOf = Rattle.network.specs.Words.reportOf
+
+  pub choose-words : chooseOf costs labels lists y ≡ chosen (choice n (λ s. view xs .cost s y) (λ s. view xs .held s y) y)
+  unfolding chooseOf wordsFault
+  choose-words =
+      let a = part-length xs (128 + y * 32) n (room 128 (omega arith)) in
+      let b = part-length xs (1152 + y * 32) n (room 1152 (omega arith)) in
+      let d = part-length xs (2176 + y * 32) n (room 2176 (omega arith)) in
+      rw (a, b, d, le-ltb 32 n (omega (arith, few xs)), eqb-same n, lt-leb 32 y (omega (arith, few xs)))
+      (ap chosen (choice-ext n (costsOf costs) (λ s. view xs .cost s y) (reports labels lists) (λ s. view xs .held s y) y cost-at held-at))
+
+-- ---- the words of a choice are those of the chosen row
+module _ (n : ℕ) (cost : ℕ → ℕ) (held : ℕ → Report) (y : ℕ) (r : Choice) (e : choiceMeans r ≡ chosen (choice n cost held y)) where
+  abbrev row : Row
+  row = choice n cost held y
+
+  pub route-words : (d p l : ℕ) → r ≡ Route d p l → rowOf d p l ≡ row
+  unfolding rowOf choiceMeans
+  route-words d p l q =
+      let f : chosen (via d p l) ≡ chosen row = sym (ap choiceMeans q) ∙ e in
+      let same : row ≡ via d p l = sym (ap (λ (a : ChoiceAnswer). a .row) f) in
+      let k = came n cost held y d p l same in
+      rw (ne-eqb l 0 (λ z. put-some (k .offered .list) y (sym (k .list) ∙ z))) (sym same)
+
+  pub no-route-words : r ≡ NoRoute → rowOf 0 0 0 ≡ row
+  unfolding rowOf choiceMeans
+  no-route-words q = ap (λ (a : ChoiceAnswer). a .row) (sym (ap choiceMeans q) ∙ e)
+
+  -- the words of a network are never refused
+  pub refused-words : r ≡ Refused → rowOf 0 0 0 ≡ row
+  unfolding choiceMeans
+  refused-words q =
+      let f : _≡_ {A = ℕ} 3 0 = ap (λ (a : ChoiceAnswer). a .number) (sym (ap choiceMeans q) ∙ e) in
+      absurd (omega arith)
+
+-- ---- row by row
+
+pub renewed-none : (x : Net) → x ≡ renewTo 0 x
+unfolding renewTo
+renewed-none x = same-net _ _ refl refl (λ s r. refl) (λ y. rw (le-ltb y 0 (omega arith))) (λ s r. refl)
+
+renewed-step : (x : Net) (k : ℕ) → k ≢ x .origin
+    → withRow (renewTo k x) k (choice (x .nodes) (λ s. renewTo k x .cost s k) (λ s. renewTo k x .held s k) k) ≡ renewTo (k + 1) x
+unfolding renewTo withRow setAt
+renewed-step x k o = same-net _ _ refl refl (λ s r. refl) (λ y. go y (eq-or-ne y k)) (λ s r. refl)
+  where
+    new : ℕ → Row
+    new y = choice (x .nodes) (λ s. x .cost s y) (λ s. x .held s y) y
+
+    go : (y : ℕ) → (y ≡ k) ⊎ (y ≢ k)
+        → cond (eqb y k) (new k) (cond (ltb y k && not (eqb y (x .origin))) (new y) (x .row y)) ≡ cond (ltb y (k + 1) && not (eqb y (x .origin))) (new y) (x .row y)
+    go y (inl e) = rw (e, eqb-same k, lt-ltb k (k + 1) (omega arith), ne-eqb k (x .origin) o)
+    go y (inr n) = rw (ne-eqb y k n, ltb-other y k n)
+
+pub renewed-origin : (x : Net) (k : ℕ) → k ≡ x .origin → renewTo k x ≡ renewTo (k + 1) x
+unfolding renewTo
+renewed-origin x k o = same-net _ _ refl refl (λ s r. refl) (λ y. go y (eq-or-ne y k)) (λ s r. refl)
+  where
+    new : ℕ → Row
+    new y = choice (x .nodes) (λ s. x .cost s y) (λ s. x .held s y) y
+
+    go : (y : ℕ) → (y ≡ k) ⊎ (y ≢ k)
+        → cond (ltb y k && not (eqb y (x .origin))) (new y) (x .row y) ≡ cond (ltb y (k + 1) && not (eqb y (x .origin))) (new y) (x .row y)
+    go y (inl e) = rw (← o, e, eqb-same k, lt-ltb k (k + 1) (omega arith), le-ltb k k (omega arith))
+    go y (inr n) = rw (ltb-other y k n)
+
+-- ---- the loop over receivers: ys has the rows of xs renewed below k
+module _ (xs ys : List ℕ) (k : ℕ) (e : view ys ≡ renewTo k (view xs)) where
+  same-nodes : view ys .nodes ≡ view xs .nodes
+  unfolding renewTo
+  same-nodes = ap (λ (x : Net). x .nodes) e
+
+  pub renewing-origin : view ys .origin ≡ view xs .origin
+  unfolding renewTo
+  renewing-origin = ap (λ (x : Net). x .origin) e
+
+  pub renewing-nodes : (n : ℕ) → n ≡ view xs .nodes → Nodes ys n
+  renewing-nodes n q = record { is = q ∙ sym same-nodes; few = omega (arith, few xs) }
+
+  pub renewing-node : (y : ℕ) → y < view xs .nodes → Node ys y
+  renewing-node y h = record { below = omega (arith, same-nodes); small = omega (arith, few xs) }
+
+  pub renewing-next : (zs : List ℕ) (n : ℕ) → n ≡ view xs .nodes → k ≢ view xs .origin
+      → view zs ≡ withRow (view ys) k (choice n (λ s. view ys .cost s k) (λ s. view ys .held s k) k) → view zs ≡ renewTo (k + 1) (view xs)
+  renewing-next zs n q o h =
+      h ∙ (λ j. withRow (e j) k (choice (q j) (λ s. e j .cost s k) (λ s. e j .held s k) k)) ∙ renewed-step (view xs) k o
+
+pub renewing-done : (xs ys : List ℕ) (k n : ℕ) → n ≡ view xs .nodes → k ≡ n → view ys ≡ renewTo k (view xs) → view ys ≡ renew (view xs)
+unfolding renew
+renewing-done xs ys k n q e h = h ∙ ap (λ m. renewTo m (view xs)) (e ∙ q)

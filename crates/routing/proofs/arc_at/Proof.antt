@@ -1,0 +1,32 @@
+-- `routing::arc_at` meets its contract: the cost's word is read.
+-- Assumes nothing.
+use borrow.Author.Needs.{needs}
+use mathlib.Core.Path.{ap}
+use lib.Dec.{ltb}
+use denote.Ref.{now}
+use Rattle.routing.proofs.Store.{read-cost}
+use Rattle.routing.proofs.arc_at.Statement.{statement}
+use Rattle.routing.proofs.arc_at.Tie as tie
+
+mul-result : tie.Need-mul-result
+mul-result c = search needs
+
+add-result : tie.Need-add-result
+add-result c = search needs
+
+add-result-2 : tie.Need-add-result-2
+add-result-2 c = search needs
+
+mul-result-2 : tie.Need-mul-result-2
+mul-result-2 c = search needs
+
+shared-slice-read-result : tie.Need-shared-slice-read-result
+shared-slice-read-result c = search needs
+
+returns : tie.Need-returns
+returns c = ap (ltb 0) (read-cost (now (c .before .args .net)) (c .before .args .sender) (c .before .args .receiver) (c .before .pre .1 .0 .below) (c .before .pre .1 .1 .below))
+
+pub arc-at-spec : {M : Type 1} → statement M
+arc-at-spec =
+    tie.close
+    (tie.spec mul-result add-result add-result-2 mul-result-2 shared-slice-read-result returns)
