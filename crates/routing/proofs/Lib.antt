@@ -1,1 +1,2 @@
 mod Store
+mod Marks
