@@ -1,2 +1,3 @@
 mod Store
 mod Marks
+mod Reading

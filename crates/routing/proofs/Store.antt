@@ -179,6 +179,10 @@ module _ (xs : List ℕ) where
   unfolding view netOf
   read-cost s r h k = sym (cell-in (min (look xs 0) 32) (look xs) 128 s r h k)
 
+  pub read-first : look xs 1 ≡ view xs .origin
+  unfolding view netOf
+  read-first = refl
+
   pub read-held : (s r : ℕ) → s < view xs .nodes → r < view xs .nodes
       → reportOf (look xs (1152 + (r * 32 + s))) (look xs (2176 + (r * 32 + s))) ≡ view xs .held s r
   unfolding view netOf
