@@ -1,3 +1,5 @@
 mod Store
 mod Marks
 mod Reading
+mod Leaving
+mod Placing

@@ -6,7 +6,7 @@ use mathlib.Core.Logic.{_≢_}
 use mathlib.Core.List.{List}
 use Prim.Native.Nat.{ℕ, _+_, _*_, _<_, _≤_}
 use native.Mathlib.Omega.{arith}
-use lib.Dec.{eqb, ltb}
+use lib.Dec.{ltb}
 use borrow.Author.Tests.{lt-ltb, le-leb, eq-eqb, ne-eqb}
 use Rattle.ancestors.specs.Ancestors.{own, hops}
 use Rattle.network.specs.Faults.{nodeFault, pairFault}
@@ -15,7 +15,7 @@ use Rattle.network.specs.Words.{reportOf}
 use Rattle.network.proofs.FaultLaws.{node-free, pair-says}
 use Rattle.routing.specs.Layout.{look, view, rowOf}
 use Rattle.routing.specs.Inner.{Node}
-use Rattle.routing.specs.Answers.{RowAnswer, rowHops, readRow, rowMeans, HeldAnswer, readHeld, heldMeans}
+use Rattle.routing.specs.Answers.{RowAnswer, rowHops, readRow, rowMeans, readHeld, heldMeans}
 use Rattle.routing.specs.declared.RowRead.the-variants as R
 use Rattle.routing.specs.declared.HeldRead.the-variants as H
 use Rattle.routing.proofs.Store.{few, read-relay, read-origin, read-held}
