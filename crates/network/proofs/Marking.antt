@@ -73,7 +73,7 @@ pub record RoundAccepted (x : Net) (ms : List ℕ) : Type 0 where
   pub arcs : (s r : ℕ) → marked ms s r ≡ true → 0 < x .cost s r
 
 -- of a test over all pairs of which none passes, a marked pair fails its part
-marked-fails : (ms : List ℕ) (f : ℕ → ℕ → Bool) → some (λ r. some (λ s. marked ms s r && f s r) 32) 32 ≡ false →
+pub marked-fails : (ms : List ℕ) (f : ℕ → ℕ → Bool) → some (λ r. some (λ s. marked ms s r && f s r) 32) 32 ≡ false →
     (s r : ℕ) → marked ms s r ≡ true → f s r ≡ false
 marked-fails ms f e s r m =
     let i = mark-says ms s r m in

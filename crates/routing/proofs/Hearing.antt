@@ -157,6 +157,11 @@ nodes-kept m x ys n h q =
     let e : view ys .nodes ≡ x .nodes = ap (λ (z : Net). z .nodes) (h .net) ∙ hear-nodes m x in
     record { is = omega arith; few = omega (arith, few ys) }
 
+pub nodes-same : (xs ps : List ℕ) (n : ℕ) → Hears ps (view xs) → n ≡ view xs .nodes → Nodes ps n
+nodes-same xs ps n h q =
+    let e : view ps .nodes ≡ view xs .nodes = ap (λ (z : Net). z .nodes) (h .net) in
+    record { is = omega arith; few = omega (arith, few ps) }
+
 -- the marks of the receivers up to k, from those below k and those of k
 rows-step : (f g : ℕ → ℕ → Bool) (k a b : ℕ) → (b ≡ k → f a b ≡ g a b) → ((eqb b k && f a b) || (ltb b k && g a b)) ≡ (ltb b (k + 1) && g a b)
 rows-step f g k a b e = go (eq-or-ne b k)

@@ -1,6 +1,10 @@
 mod Store
-mod Hearing
-mod Renewing
 mod Leaving
 mod Starting
 mod Changing
+mod Hearing
+mod Renewing
+mod Marks
+mod Rounding
+mod Reading
+mod Placing

@@ -261,7 +261,6 @@ module _ (xs : List ℕ) (size : length xs ≡ words) where
         list : (a b : ℕ) → cell n h 2176 a b ≡ cell n g 2176 a b
         list a b = cell-away n g 2176 (128 + at) c (few xs) (inl (omega (arith, few xs))) a b
 
-
     -- the two words of a report
     pub store-report : (d l : ℕ) → view (set (set xs (1152 + at) d) (2176 + at) l) ≡ withHeld (view xs) s r (reportOf d l)
     unfolding withHeld view netOf

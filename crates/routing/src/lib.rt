@@ -56,10 +56,7 @@ pub enum HeldRead {
     // 3: a node is not below n, or sender equals receiver.
     Refused,
     Empty,
-    Report {
-        label: u32,
-        list: u32,
-    },
+    Report { label: u32, list: u32 },
 }
 
 // ---- parts of the words
@@ -109,18 +106,30 @@ pub fn fresh(n: u32, origin: u32) -> NewNetwork
 {
     if n == 0 {
         let net = fresh_words(1, 0);
-        return NewNetwork { number: 3, net: net };
+        return NewNetwork {
+            number: 3,
+            net: net,
+        };
     }
     if 32 < n {
         let net = fresh_words(1, 0);
-        return NewNetwork { number: 3, net: net };
+        return NewNetwork {
+            number: 3,
+            net: net,
+        };
     }
     if n <= origin {
         let net = fresh_words(1, 0);
-        return NewNetwork { number: 3, net: net };
+        return NewNetwork {
+            number: 3,
+            net: net,
+        };
     }
     let net = fresh_words(n, origin);
-    NewNetwork { number: 0, net: net }
+    NewNetwork {
+        number: 0,
+        net: net,
+    }
 }
 
 // ---- change and grade
@@ -296,7 +305,12 @@ fn choose_row(net: &[u32], n: usize, receiver: usize) -> Choice
     let c = 128 + base;
     let d = 1152 + base;
     let l = 2176 + base;
-    network::choose(&net[c..c + n], &net[d..d + n], &net[l..l + n], receiver as u32)
+    network::choose(
+        &net[c..c + n],
+        &net[d..d + n],
+        &net[l..l + n],
+        receiver as u32,
+    )
 }
 
 fn store_row(net: &mut [u32], node: usize, label: u32, predecessor: u32, list: u32)
@@ -399,7 +413,10 @@ fn idle_row(net: &[u32], n: usize, receiver: usize, word: u32) -> bool
     let base = 128 + receiver * 32;
     let mut found = false;
     for s in 0..n {
-        found = or(found, idle_mark(ancestors::listed(word, s as u32), net[base + s]));
+        found = or(
+            found,
+            idle_mark(ancestors::listed(word, s as u32), net[base + s]),
+        );
     }
     found
 }

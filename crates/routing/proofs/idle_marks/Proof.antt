@@ -1,0 +1,68 @@
+-- `routing::idle_marks` meets its contract. The loop's invariant: `found` says whether a receiver passed has a mark without an arc.
+-- Assumes nothing.
+use borrow.Author.Needs.{needs}
+use native.Mathlib.Omega.{arith}
+use mathlib.Core.Path.{_≡_, refl, ap, _∙_}
+use Prim.Native.Nat.{_-_, _≤_}
+use native.Mathlib.Numerals.{add-one}
+use denote.Ref.{now}
+use Rattle.network.specs.Round.{some}
+use Rattle.routing.specs.Layout.{view}
+use Rattle.routing.specs.Inner.{idleRows}
+use Rattle.routing.proofs.idle_marks.Statement.{statement}
+use Rattle.routing.proofs.idle_marks.Tie as tie
+
+abbrev Inv-loop : tie.InvT-loop
+Inv-loop net n marks found₀ r₀ found r = (found ≡ idleRows (view net) marks r) × (r ≤ n)
+
+abbrev μ-loop : tie.MeasureT-loop
+μ-loop net n marks found₀ r₀ found r = n - r
+
+loop-holds : tie.Need-loop-holds Inv-loop μ-loop
+unfolding idleRows some
+loop-holds c = (refl, omega arith)
+
+mul-idle-row : tie.Need-mul-idle-row Inv-loop μ-loop
+mul-idle-row c = search needs
+
+shared-slice-read-idle-row : tie.Need-shared-slice-read-idle-row Inv-loop μ-loop
+shared-slice-read-idle-row c = search needs
+
+idle-row-requires : tie.Need-idle-row-requires Inv-loop μ-loop
+idle-row-requires c κs = search needs
+
+or-requires : tie.Need-or-requires Inv-loop μ-loop
+or-requires c κs = search needs
+
+add-r : tie.Need-add-r Inv-loop μ-loop
+add-r c = search needs
+
+loop-less : tie.Need-loop-less Inv-loop μ-loop
+loop-less c = search needs
+
+loop-again : tie.Need-loop-again Inv-loop μ-loop
+unfolding idleRows some
+loop-again c =
+    let l = c .before .before .before .before .loop in
+    (c .or .ensures ∙ rw (add-one, c .before .idle-row .ensures, l .inv .0, c .before .before .before .before .before .before .before .pre .1 .0 .is), omega arith)
+
+returns : tie.Need-returns Inv-loop μ-loop
+returns c =
+    let a = c .before .before .before .before .args in
+    c .before .loop .inv .0 ∙ ap (idleRows (view (now (a .net))) (now (a .marks))) (omega arith)
+
+pub idle-marks-spec : {M : Type 1} → statement M
+idle-marks-spec =
+    tie.close
+    (tie.spec
+    Inv-loop
+    μ-loop
+    loop-holds
+    mul-idle-row
+    shared-slice-read-idle-row
+    idle-row-requires
+    or-requires
+    add-r
+    loop-less
+    loop-again
+    returns)

@@ -1,0 +1,63 @@
+-- `routing::report_number_words` meets its contract, test by test.
+-- Assumes nothing.
+use borrow.Author.Needs.{needs}
+use mathlib.Core.Path.{_≡_, sym, _∙_}
+use denote.Ref.{now}
+use mathlib.Core.Bool.{true, false}
+use Rattle.network.specs.Faults.{pairFault, reportFault}
+use Rattle.network.specs.Network.{placeReportNumber}
+use Rattle.routing.specs.Layout.{view}
+use Rattle.routing.proofs.Changing.{sender-node, receiver-node}
+use Rattle.routing.proofs.report_number_words.Statement.{statement}
+use Rattle.routing.proofs.report_number_words.Tie as tie
+
+size-requires : tie.Need-size-requires
+size-requires c κs = search needs
+
+pair-fault-requires : tie.Need-pair-fault-requires
+pair-fault-requires c κs = search needs
+
+returns : tie.Need-returns
+unfolding placeReportNumber
+returns c =
+    let a = c .before .before .before .before .args in
+    let e : pairFault (view (now (a .net)) .nodes) (a .sender) (a .receiver) ≡ true = cc in
+    rw e
+
+cost-word-requires : tie.Need-cost-word-requires
+cost-word-requires c κs =
+    let a = c .before .before .before .before .args in
+    let s = sender-node (now (a .net)) _ (a .sender) (a .receiver) (c .before .before .size .ensures) (sym (c .before .pair-fault .ensures) ∙ c .if1 .left) in
+    let r = receiver-node (now (a .net)) _ (a .sender) (a .receiver) (c .before .before .size .ensures) (sym (c .before .pair-fault .ensures) ∙ c .if1 .left) in
+    search needs
+
+report-fault-requires : tie.Need-report-fault-requires
+report-fault-requires c κs = search needs
+
+returns-2 : tie.Need-returns-2
+unfolding placeReportNumber
+returns-2 c =
+    let a = c .before .before .before .before .before .before .before .args in
+    let e : pairFault (view (now (a .net)) .nodes) (a .sender) (a .receiver) ≡ false = cc in
+    let f : reportFault (view (now (a .net)) .nodes) (view (now (a .net)) .cost (a .sender) (a .receiver)) (a .sender) (a .label) (a .list) ≡ true = cc in
+    rw (e, f)
+
+returns-3 : tie.Need-returns-3
+unfolding placeReportNumber
+returns-3 c =
+    let a = c .before .before .before .before .before .before .before .args in
+    let e : pairFault (view (now (a .net)) .nodes) (a .sender) (a .receiver) ≡ false = cc in
+    let f : reportFault (view (now (a .net)) .nodes) (view (now (a .net)) .cost (a .sender) (a .receiver)) (a .sender) (a .label) (a .list) ≡ false = cc in
+    rw (e, f)
+
+pub report-number-words-spec : {M : Type 1} → statement M
+report-number-words-spec =
+    tie.close
+    (tie.spec
+    size-requires
+    pair-fault-requires
+    returns
+    cost-word-requires
+    report-fault-requires
+    returns-2
+    returns-3)

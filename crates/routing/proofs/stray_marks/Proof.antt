@@ -1,0 +1,69 @@
+-- `routing::stray_marks` meets its contract. The loop's invariant: `found` says whether a receiver passed has a mark out of range.
+-- Assumes nothing.
+use borrow.Author.Needs.{needs}
+use native.Mathlib.Omega.{arith}
+use mathlib.Core.Path.{_≡_, refl, ap, _∙_}
+use Prim.Native.Nat.{_-_, _≤_}
+use native.Mathlib.Numerals.{add-one}
+use denote.Ref.{now}
+use Rattle.network.specs.Round.{some}
+use Rattle.routing.specs.Inner.{strayRows}
+use Rattle.routing.proofs.stray_marks.Statement.{statement}
+use Rattle.routing.proofs.stray_marks.Tie as tie
+
+abbrev Inv-loop : tie.InvT-loop
+Inv-loop n marks found₀ r₀ found r = (found ≡ strayRows n marks r) × (r ≤ 32)
+
+abbrev μ-loop : tie.MeasureT-loop
+μ-loop n marks found₀ r₀ found r = 32 - r
+
+loop-holds : tie.Need-loop-holds Inv-loop μ-loop
+unfolding strayRows some
+loop-holds c = (refl, omega arith)
+
+cast-stray-row : tie.Need-cast-stray-row Inv-loop μ-loop
+cast-stray-row c = search needs
+
+mul-stray-row : tie.Need-mul-stray-row Inv-loop μ-loop
+mul-stray-row c = search needs
+
+shared-slice-read-stray-row : tie.Need-shared-slice-read-stray-row Inv-loop μ-loop
+shared-slice-read-stray-row c = search needs
+
+stray-row-requires : tie.Need-stray-row-requires Inv-loop μ-loop
+stray-row-requires c κs = search needs
+
+or-requires : tie.Need-or-requires Inv-loop μ-loop
+or-requires c κs = search needs
+
+add-r : tie.Need-add-r Inv-loop μ-loop
+add-r c = search needs
+
+loop-less : tie.Need-loop-less Inv-loop μ-loop
+loop-less c = search needs
+
+loop-again : tie.Need-loop-again Inv-loop μ-loop
+unfolding strayRows some
+loop-again c = (c .or .ensures ∙ rw (add-one, c .before .stray-row .ensures, c .before .before .before .before .loop .inv .0), omega arith)
+
+returns : tie.Need-returns Inv-loop μ-loop
+returns c =
+    let a = c .before .before .before .args in
+    c .before .loop .inv .0 ∙ ap (strayRows (a .n) (now (a .marks))) (omega arith)
+
+pub stray-marks-spec : {M : Type 1} → statement M
+stray-marks-spec =
+    tie.close
+    (tie.spec
+    Inv-loop
+    μ-loop
+    loop-holds
+    cast-stray-row
+    mul-stray-row
+    shared-slice-read-stray-row
+    stray-row-requires
+    or-requires
+    add-r
+    loop-less
+    loop-again
+    returns)
