@@ -10,7 +10,7 @@ use lib.Dec.{ltb}
 use borrow.Author.Tests.{lt-ltb, le-leb, eq-eqb, ne-eqb}
 use Rattle.ancestors.specs.Ancestors.{own, hops}
 use Rattle.network.specs.Faults.{nodeFault, pairFault}
-use Rattle.network.specs.Network.{Row, Report, Net}
+use Rattle.network.specs.Network.{Row, Net}
 use Rattle.network.specs.Words.{reportOf}
 use Rattle.network.proofs.FaultLaws.{node-free, pair-says}
 use Rattle.routing.specs.Layout.{look, view, rowOf}

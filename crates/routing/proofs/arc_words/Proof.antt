@@ -27,8 +27,10 @@ returns c =
 cost-word-requires : tie.Need-cost-word-requires
 cost-word-requires c κs =
     let a = c .before .before .before .before .args in
-    let s = sender-node (now (a .net)) _ (a .sender) (a .receiver) (c .before .before .size .ensures) (sym (c .before .pair-fault .ensures) ∙ c .if1 .left) in
-    let r = receiver-node (now (a .net)) _ (a .sender) (a .receiver) (c .before .before .size .ensures) (sym (c .before .pair-fault .ensures) ∙ c .if1 .left) in
+    let n = c .before .before .size .ensures in
+    let e = sym (c .before .pair-fault .ensures) ∙ c .if1 .left in
+    let s = sender-node (now (a .net)) _ (a .sender) (a .receiver) n e in
+    let r = receiver-node (now (a .net)) _ (a .sender) (a .receiver) n e in
     search needs
 
 returns-2 : tie.Need-returns-2

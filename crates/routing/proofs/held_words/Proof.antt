@@ -41,8 +41,10 @@ mul-list c = search needs
 shared-slice-read-list : tie.Need-shared-slice-read-list
 shared-slice-read-list c =
     let a = c .before .before .before .before .before .args in
-    let s = sender-node (now (a .net)) _ (a .sender) (a .receiver) (c .before .before .before .size .ensures) (sym (c .before .before .pair-fault .ensures) ∙ c .before .if1 .left) in
-    let r = receiver-node (now (a .net)) _ (a .sender) (a .receiver) (c .before .before .before .size .ensures) (sym (c .before .before .pair-fault .ensures) ∙ c .before .if1 .left) in
+    let n = c .before .before .before .size .ensures in
+    let e = sym (c .before .before .pair-fault .ensures) ∙ c .before .if1 .left in
+    let s = sender-node (now (a .net)) _ (a .sender) (a .receiver) n e in
+    let r = receiver-node (now (a .net)) _ (a .sender) (a .receiver) n e in
     omega arith
 
 returns-2 : tie.Need-returns-2
@@ -60,8 +62,10 @@ mul-t8 c = search needs
 shared-slice-read-t7 : tie.Need-shared-slice-read-t7
 shared-slice-read-t7 c =
     let a = c .before .before .before .before .before .before .before .args in
-    let s = sender-node (now (a .net)) _ (a .sender) (a .receiver) (c .before .before .before .before .before .size .ensures) (sym (c .before .before .before .before .pair-fault .ensures) ∙ c .before .before .before .if1 .left) in
-    let r = receiver-node (now (a .net)) _ (a .sender) (a .receiver) (c .before .before .before .before .before .size .ensures) (sym (c .before .before .before .before .pair-fault .ensures) ∙ c .before .before .before .if1 .left) in
+    let n = c .before .before .before .before .before .size .ensures in
+    let e = sym (c .before .before .before .before .pair-fault .ensures) ∙ c .before .before .before .if1 .left in
+    let s = sender-node (now (a .net)) _ (a .sender) (a .receiver) n e in
+    let r = receiver-node (now (a .net)) _ (a .sender) (a .receiver) n e in
     omega arith
 
 returns-3 : tie.Need-returns-3

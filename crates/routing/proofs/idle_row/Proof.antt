@@ -7,7 +7,7 @@ use Prim.Native.Nat.{_+_, _*_, _-_, _≤_}
 use native.Mathlib.Numerals.{add-one}
 use denote.Ref.{now}
 use Rattle.network.specs.Round.{some}
-use Rattle.routing.specs.Layout.{look, view}
+use Rattle.routing.specs.Layout.{view}
 use Rattle.routing.specs.Inner.{idleRow}
 use Rattle.routing.proofs.Store.{read-cost}
 use Rattle.routing.proofs.idle_row.Statement.{statement}
@@ -61,8 +61,9 @@ unfolding idleRow some
 loop-again c =
     let l = c .before .before .before .before .before .loop in
     let a = c .before .before .before .before .before .before .before .args in
-    let at : look (now (a .net)) (128 + a .receiver * 32 + l .s) ≡ view (now (a .net)) .cost (l .s) (a .receiver) = ap (look (now (a .net))) (omega arith) ∙ read-cost (now (a .net)) (l .s) (a .receiver) (omega arith) (omega arith) in
-    (c .or .ensures ∙ rw (add-one, c .before .idle-mark .ensures, c .before .before .before .listed .ensures, l .inv .0, at), omega arith)
+    let at = read-cost (now (a .net)) (l .s) (a .receiver) (omega arith) (omega arith) in
+    let same : 128 + a .receiver * 32 + l .s ≡ 128 + (a .receiver * 32 + l .s) = omega arith in
+    (c .or .ensures ∙ rw (add-one, c .before .idle-mark .ensures, c .before .before .before .listed .ensures, l .inv .0, same, at), omega arith)
 
 returns : tie.Need-returns Inv-loop μ-loop
 returns c =

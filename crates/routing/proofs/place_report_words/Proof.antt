@@ -1,4 +1,4 @@
--- `routing::place_report_words` meets its contract: refused, or stored. .
+-- `routing::place_report_words` meets its contract: refused, or stored.
 -- Assumes nothing.
 use borrow.Author.Needs.{needs}
 use native.Mathlib.Omega.{arith}
@@ -35,7 +35,8 @@ mul-net c = search needs
 slice-write-net : tie.Need-slice-write-net
 slice-write-net c =
     let a = c .before .before .before .before .args in
-    let p = report-place (now (a .net)) (a .sender) (a .receiver) (a .label) (a .list) (sym (c .before .report-number-words .ensures) ∙ c .if1 .left) in
+    let e = sym (c .before .report-number-words .ensures) ∙ c .if1 .left in
+    let p = report-place (now (a .net)) (a .sender) (a .receiver) (a .label) (a .list) e in
     omega arith
 
 add-net-2 : tie.Need-add-net-2
@@ -47,7 +48,8 @@ mul-net-2 c = search needs
 slice-write-net-2 : tie.Need-slice-write-net-2
 slice-write-net-2 c =
     let a = c .before .before .before .before .args in
-    let p = report-place (now (a .net)) (a .sender) (a .receiver) (a .label) (a .list) (sym (c .before .report-number-words .ensures) ∙ c .if1 .left) in
+    let e = sym (c .before .report-number-words .ensures) ∙ c .if1 .left in
+    let p = report-place (now (a .net)) (a .sender) (a .receiver) (a .label) (a .list) e in
     simp length-set (omega arith)
 
 same-length-2 : tie.Need-same-length-2
@@ -56,7 +58,8 @@ same-length-2 c = search needs
 returns-2 : tie.Need-returns-2
 returns-2 c =
     let a = c .before .before .before .before .args in
-    placed-report (now (a .net)) (a .sender) (a .receiver) (a .label) (a .list) (sym (c .before .report-number-words .ensures) ∙ c .if1 .left) (c .before .before .before .before .pre)
+    let e = sym (c .before .report-number-words .ensures) ∙ c .if1 .left in
+    placed-report (now (a .net)) (a .sender) (a .receiver) (a .label) (a .list) e (c .before .before .before .before .pre)
 
 pub place-report-words-spec : {M : Type 1} → statement M
 place-report-words-spec =

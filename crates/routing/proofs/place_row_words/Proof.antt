@@ -3,7 +3,6 @@
 use borrow.Author.Needs.{needs}
 use mathlib.Core.Path.{sym, _∙_}
 use denote.Ref.{now}
-use Rattle.routing.proofs.Store.{store-row}
 use Rattle.routing.proofs.Placing.{refused-row, row-place, placed-row}
 use Rattle.routing.proofs.place_row_words.Statement.{statement}
 use Rattle.routing.proofs.place_row_words.Tie as tie
@@ -22,7 +21,8 @@ returns c =
 store-row-requires : tie.Need-store-row-requires
 store-row-requires c κs =
     let a = c .before .before .before .before .before .args in
-    let p = row-place (now (a .net)) (a .node) (a .label) (a .predecessor) (a .list) (sym (c .before .before .row-number-words .ensures) ∙ c .before .if1 .left) in
+    let e = sym (c .before .before .row-number-words .ensures) ∙ c .before .if1 .left in
+    let p = row-place (now (a .net)) (a .node) (a .label) (a .predecessor) (a .list) e in
     search needs
 
 same-length-2 : tie.Need-same-length-2
@@ -31,7 +31,8 @@ same-length-2 c = search needs
 returns-2 : tie.Need-returns-2
 returns-2 c =
     let a = c .before .before .before .before .before .before .before .before .args in
-    placed-row (now (a .net)) (a .node) (a .label) (a .predecessor) (a .list) (sym (c .before .before .before .before .before .row-number-words .ensures) ∙ c .before .before .before .before .if1 .left) _ (c .before .before .store-row .ensures)
+    let e = sym (c .before .before .before .before .before .row-number-words .ensures) ∙ c .before .before .before .before .if1 .left in
+    placed-row (now (a .net)) (a .node) (a .label) (a .predecessor) (a .list) e _ (c .before .before .store-row .ensures)
 
 pub place-row-words-spec : {M : Type 1} → statement M
 place-row-words-spec =

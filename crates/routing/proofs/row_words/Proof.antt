@@ -30,7 +30,8 @@ count-hops-requires c κs = search needs
 returns-2 : tie.Need-returns-2
 returns-2 c =
     let a = c .before .before .before .before .before .before .before .args in
-    row-origin (now (a .net)) (a .node) (omega arith) _ _ (c .before .before .if2 .taken ∙ read-first (now (a .net))) (c .before .joined .ensures) (c .count-hops .ensures)
+    let o = read-first (now (a .net)) in
+    row-origin (now (a .net)) (a .node) (omega arith) _ _ (c .before .before .if2 .taken ∙ o) (c .before .joined .ensures) (c .count-hops .ensures)
 
 add-list : tie.Need-add-list
 add-list c = search needs
@@ -47,7 +48,8 @@ shared-slice-read-list c =
 returns-3 : tie.Need-returns-3
 returns-3 c =
     let a = c .before .before .before .before .before .before .before .args in
-    row-none (now (a .net)) (a .node) (omega arith) (λ q. c .before .before .if2 .left (q ∙ sym (read-first (now (a .net))))) (c .if3 .taken)
+    let o = read-first (now (a .net)) in
+    row-none (now (a .net)) (a .node) (omega arith) (λ q. c .before .before .if2 .left (q ∙ sym o)) (c .if3 .taken)
 
 add-t10 : tie.Need-add-t10
 add-t10 c = search needs
@@ -79,7 +81,8 @@ count-hops-requires-2 c κs = search needs
 returns-4 : tie.Need-returns-4
 returns-4 c =
     let a = c .before .before .before .before .before .before .before .before .before .before .args in
-    row-route (now (a .net)) (a .node) (omega arith) (λ q. c .before .before .before .before .before .if2 .left (q ∙ sym (read-first (now (a .net))))) _ (c .before .before .before .if3 .left) (c .count-hops2 .ensures)
+    let o = read-first (now (a .net)) in
+    row-route (now (a .net)) (a .node) (omega arith) (λ q. c .before .before .before .before .before .if2 .left (q ∙ sym o)) _ (c .before .before .before .if3 .left) (c .count-hops2 .ensures)
 
 pub row-words-spec : {M : Type 1} → statement M
 row-words-spec =
