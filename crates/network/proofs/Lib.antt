@@ -10,4 +10,4 @@ pub mod Distinct
 pub mod RoundLimits
 pub mod Keeping
 mod Least
-pub mod Bits
+mod Bits

@@ -72,7 +72,7 @@ pub fn pair_fault(n: u32, sender: u32, receiver: u32) -> bool
 }
 
 // Whether the list has a bit not below n.
-fn bit_beyond(n: u32, list: u32) -> bool
+pub fn bit_beyond(n: u32, list: u32) -> bool
     ensures { λ b. ⌜ b ≡ leb (2 ^ n) list ⌝ }
 {
     if 32 <= n {

@@ -16,9 +16,10 @@ use Rattle.ancestors.proofs.Laws.{put-some}
 use Rattle.network.specs.Network.{Row, none, root, via, Report, empty, told, Net, setPair, withHeld}
 use Rattle.network.specs.Round.{Marks, report, hear, everyArc}
 use Rattle.network.specs.Words.{reportOf}
-use Rattle.routing.specs.Layout.{words, cell, rowOf, netOf, look, view}
-use Rattle.routing.specs.Inner.{Node, Nodes, Primed, Hears, oneMark, rowMarks, wordMarks, arcRow, arcMarks}
-use Rattle.routing.proofs.Store.{same-net, few, cost-beyond, read-held, read-relay, read-origin, store-report, store-origin}
+use Rattle.memory.specs.Layout.{words, cell, rowOf, netOf, look, view}
+use Rattle.memory.specs.Inner.{Node}
+use Rattle.routing.specs.Inner.{Nodes, Primed, Hears, oneMark, rowMarks, wordMarks, arcRow, arcMarks}
+use Rattle.memory.proofs.Store.{same-net, few, cost-beyond, read-held, read-relay, read-origin, store-report, store-origin}
 
 -- ---- laws of hearing
 
@@ -156,6 +157,9 @@ pub nodes-kept : (m : Marks) (x : Net) (ys : List ℕ) (n : ℕ) → Hears ys (h
 nodes-kept m x ys n h q =
     let e : view ys .nodes ≡ x .nodes = ap (λ (z : Net). z .nodes) (h .net) ∙ hear-nodes m x in
     record { is = omega arith; few = omega (arith, few ys) }
+
+pub nodes-count : (xs : List ℕ) (n : ℕ) → n ≡ view xs .nodes → Nodes xs n
+nodes-count xs n q = record { is = q; few = omega (arith, few xs) }
 
 pub nodes-same : (xs ps : List ℕ) (n : ℕ) → Hears ps (view xs) → n ≡ view xs .nodes → Nodes ps n
 nodes-same xs ps n h q =

@@ -1,10 +1,4 @@
-mod Store
-mod Leaving
-mod Starting
-mod Changing
 mod Hearing
 mod Renewing
 mod Marks
 mod Rounding
-mod Reading
-mod Placing

@@ -4,18 +4,16 @@ use mathlib.Core.Path.{_≡_, sym, ap, subst, _∙_}
 use mathlib.Core.Bool.{Bool, true, false, not, _&&_, _||_, or-true, or-false, and-false}
 use mathlib.Core.Logic.{_⊎_, inl, inr, _≢_}
 use mathlib.Core.List.{List}
-use Prim.Native.Nat.{ℕ, zero, suc, _/_, _^_, _<_, _≤_}
+use Prim.Native.Nat.{ℕ, zero, suc, _^_, _<_, _≤_}
 use native.Mathlib.Omega.{arith}
-use native.Mathlib.Nat.{div-one}
 use lib.Dec.{eqb, ltb, leb}
 use lib.ListN.{getD}
-use borrow.Author.Tests.{lt-ltb, le-ltb, le-leb}
+use borrow.Author.Tests.{lt-ltb, le-ltb, le-leb, lt-leb, eq-eqb, ne-eqb}
 use Rattle.ancestors.specs.Ancestors.{has}
 use Rattle.ancestors.proofs.Cases.{bool-cases, le-or-lt, eq-or-ne, eqb-same, never}
 use Rattle.network.specs.Faults.{pairFault}
 use Rattle.network.specs.Network.{Net}
 use Rattle.network.specs.Round.{marked, some, strayMark, idleMark}
-use Rattle.network.proofs.Bits.{shift-some}
 use Rattle.network.proofs.FaultLaws.{pair-says, pair-free, list-bits-low, list-bits-high}
 use Rattle.network.proofs.Marking.{some-here, some-none, some-ext, marked-fails}
 use Rattle.routing.specs.Inner.{wordMarks, strayRow, strayRows, idleRow, idleRows}
@@ -51,10 +49,10 @@ module _ (n r w : ℕ) where
   stray-self h e = sym (stray r h e fault-same)
 
   module _ (fits : w < 2 ^ 32) where
-    -- where the bits not below m are at fault, and no others, a shift by m tells
-    by-shift : (m : ℕ) → m ≤ 32 → ((s : ℕ) → m ≤ s → pairFault n s r ≡ true) → ((s : ℕ) → s < m → has w s ≡ true → pairFault n s r ≡ false)
-        → not (eqb (w / 2 ^ m) 0) ≡ strayRow n r w
-    by-shift m few high low = shift-some m w ∙ go (bool-cases (leb (2 ^ m) w))
+    -- where the bits not below m are at fault, and no others, a bit not below m tells
+    by-bits : (m : ℕ) → m ≤ 32 → ((s : ℕ) → m ≤ s → pairFault n s r ≡ true) → ((s : ℕ) → s < m → has w s ≡ true → pairFault n s r ≡ false)
+        → leb (2 ^ m) w ≡ strayRow n r w
+    by-bits m few high low = go (bool-cases (leb (2 ^ m) w))
       where
         below : (s : ℕ) → has w s ≡ true → leb (2 ^ m) w ≡ false → (m ≤ s) ⊎ (s < m) → pairFault n s r ≡ false
         below s e f (inl h) = never (has w s) e (list-bits-low m w f s h)
@@ -66,11 +64,15 @@ module _ (n r w : ℕ) where
 
     -- every mark of a receiver that is no node
     pub stray-word : n ≤ r → not (eqb w 0) ≡ strayRow n r w
-    stray-word h = rw div-one at (by-shift 0 (omega arith) (λ s _. fault-receiver s h) (λ s k e. absurd (omega arith)))
+    stray-word h = not-zero (eq-or-ne w 0) ∙ by-bits 0 (omega arith) (λ s _. fault-receiver s h) (λ s k e. absurd (omega arith))
+      where
+        not-zero : (w ≡ 0) ⊎ (w ≢ 0) → not (eqb w 0) ≡ leb 1 w
+        not-zero (inl e) = rw (eq-eqb w 0 e, lt-leb 1 w (omega arith))
+        not-zero (inr e) = rw (ne-eqb w 0 e, le-leb 1 w (omega (arith, e)))
 
     -- else a mark on a sender that is no node
-    pub stray-high : n ≤ 32 → r < n → has w r ≡ false → not (eqb (w / 2 ^ n) 0) ≡ strayRow n r w
-    stray-high few h e = by-shift n few fault-sender (λ s k b. pair-free n s r k h (λ q. never (has w s) b (subst (λ i. has w i ≡ false) (sym q) e)))
+    pub stray-high : n ≤ 32 → r < n → has w r ≡ false → leb (2 ^ n) w ≡ strayRow n r w
+    stray-high few h e = by-bits n few fault-sender (λ s k b. pair-free n s r k h (λ q. never (has w s) b (subst (λ i. has w i ≡ false) (sym q) e)))
 
 -- ---- tests below two bounds
 

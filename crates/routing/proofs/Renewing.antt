@@ -18,9 +18,10 @@ use Rattle.network.specs.Words.{reports, costsOf, ChoiceAnswer, chosen, wordsFa
 use Rattle.network.specs.declared.Choice.{Choice}
 use Rattle.network.specs.declared.Choice.the-variants.{Refused, NoRoute, Route}
 use Rattle.network.proofs.Choosing.{choice-ext, came}
-use Rattle.routing.specs.Layout.{words, rowOf, look, view}
-use Rattle.routing.specs.Inner.{Node, Nodes}
-use Rattle.routing.proofs.Store.{same-net, few, read-cost, read-held}
+use Rattle.memory.specs.Layout.{words, rowOf, look, view}
+use Rattle.memory.specs.Inner.{Node}
+use Rattle.routing.specs.Inner.{Nodes}
+use Rattle.memory.proofs.Store.{same-net, few, read-cost, read-held}
 
 -- ---- the words of one receiver
 

@@ -12,13 +12,13 @@ use borrow.Author.Tests.{eq-eqb, ne-eqb}
 use Rattle.network.specs.Network.{Net}
 use Rattle.network.specs.Round.{marked, everyArc, hear, renew, round, strayMark, idleMark, roundNumber, roundOf, fullRoundOf}
 use Rattle.network.proofs.Effects.{accepted-net}
-use Rattle.routing.specs.Layout.{view}
+use Rattle.memory.specs.Layout.{view}
 use Rattle.routing.specs.Inner.{Hears, wordMarks, strayRows, idleRows}
-use Rattle.routing.specs.Answers.{Leaves}
-use Rattle.routing.proofs.Store.{few}
+use Rattle.memory.specs.Answers.{Leaves}
+use Rattle.memory.proofs.Store.{few}
 use Rattle.routing.proofs.Hearing.{hear-ext}
 use Rattle.routing.proofs.Marks.{stray-agrees, idle-agrees, marks-agree}
-use Rattle.routing.proofs.Leaving.{leaves-refused, leaves-accepted}
+use Rattle.memory.proofs.Leaving.{leaves-refused, leaves-accepted}
 
 module _ (xs ms : List ℕ) where
   pub round-cut : length ms ≢ 32 → Leaves (roundOf (view xs) ms) 1 xs xs

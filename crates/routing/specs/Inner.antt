@@ -10,12 +10,7 @@ use Rattle.ancestors.specs.Ancestors.{has, own}
 use Rattle.network.specs.Faults.{pairFault}
 use Rattle.network.specs.Network.{Net}
 use Rattle.network.specs.Round.{Marks, some}
-use Rattle.routing.specs.Layout.{words, look, view}
-
--- y is a node of the network that the words give
-pub record Node (xs : List ℕ) (y : ℕ) : Type 0 where
-  pub below : y < view xs .nodes
-  pub small : y < 32
+use Rattle.memory.specs.Layout.{words, look, view}
 
 -- n is the number of nodes
 pub record Nodes (xs : List ℕ) (n : ℕ) : Type 0 where
@@ -65,8 +60,3 @@ idleRow x r w k = some (λ s. has w s && eqb (x .cost s r) 0) k
 
 unfoldable pub idleRows : Net → List ℕ → ℕ → Bool
 idleRows x ms k = some (λ r. idleRow x r (getD ms r 0) (x .nodes)) k
-
--- words of 0
-pub record Blank (xs : List ℕ) : Type 0 where
-  pub size : length xs ≡ words
-  pub zeros : (k : ℕ) → look xs k ≡ 0

@@ -4,7 +4,7 @@ use borrow.Author.Needs.{needs}
 use mathlib.Core.Path.{ap}
 use lib.Dec.{ltb}
 use denote.Ref.{now}
-use Rattle.routing.proofs.Store.{read-cost}
+use Rattle.memory.proofs.Store.{read-cost}
 use Rattle.routing.proofs.arc_at.Statement.{statement}
 use Rattle.routing.proofs.arc_at.Tie as tie
 

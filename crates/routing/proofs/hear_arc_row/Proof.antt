@@ -9,7 +9,7 @@ use lib.ListN.{length}
 use denote.Ref.{now}
 use Rattle.network.specs.Network.{Net}
 use Rattle.network.specs.Round.{hear}
-use Rattle.routing.specs.Layout.{words, view}
+use Rattle.memory.specs.Layout.{words, view}
 use Rattle.routing.specs.Inner.{Hears, oneMark, arcRow}
 use Rattle.routing.proofs.Hearing.{hear-arc, hears-next, hears-first, hear-cost, arc-row-none, arc-row-step, node-kept}
 use Rattle.routing.proofs.hear_arc_row.Statement.{statement}

@@ -7,7 +7,7 @@ use mathlib.Core.Path.{_≡_, sym, ap, _∙_}
 use lib.ListN.{length}
 use denote.Ref.{now}
 use Rattle.network.specs.Round.{hear}
-use Rattle.routing.specs.Layout.{words, view}
+use Rattle.memory.specs.Layout.{words, view}
 use Rattle.routing.specs.Inner.{Hears, arcMarks}
 use Rattle.routing.proofs.Hearing.{hears-first, hear-ext, arcs-none, arcs-next, arcs-all, node-kept, nodes-kept}
 use Rattle.routing.proofs.hear_arcs.Statement.{statement}

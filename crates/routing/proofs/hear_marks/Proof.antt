@@ -7,7 +7,7 @@ use mathlib.Core.Path.{_≡_, sym, subst, _∙_}
 use lib.ListN.{length, getD}
 use denote.Ref.{now}
 use Rattle.network.specs.Round.{hear}
-use Rattle.routing.specs.Layout.{words, view}
+use Rattle.memory.specs.Layout.{words, view}
 use Rattle.routing.specs.Inner.{Hears, rowMarks, wordMarks}
 use Rattle.routing.proofs.Hearing.{hears-next, hears-first, words-none, words-step, node-kept, nodes-kept}
 use Rattle.routing.proofs.hear_marks.Statement.{statement}

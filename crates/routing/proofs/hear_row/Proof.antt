@@ -8,7 +8,7 @@ use lib.ListN.{length}
 use denote.Ref.{now}
 use Rattle.ancestors.specs.Ancestors.{has}
 use Rattle.network.specs.Round.{hear}
-use Rattle.routing.specs.Layout.{words, view}
+use Rattle.memory.specs.Layout.{words, view}
 use Rattle.routing.specs.Inner.{Hears, oneMark, rowMarks}
 use Rattle.routing.proofs.Hearing.{hear-arc, hears-next, hears-first, row-none, row-step, node-kept}
 use Rattle.routing.proofs.hear_row.Statement.{statement}

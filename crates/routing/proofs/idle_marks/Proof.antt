@@ -7,7 +7,7 @@ use Prim.Native.Nat.{_-_, _≤_}
 use native.Mathlib.Numerals.{add-one}
 use denote.Ref.{now}
 use Rattle.network.specs.Round.{some}
-use Rattle.routing.specs.Layout.{view}
+use Rattle.memory.specs.Layout.{view}
 use Rattle.routing.specs.Inner.{idleRows}
 use Rattle.routing.proofs.idle_marks.Statement.{statement}
 use Rattle.routing.proofs.idle_marks.Tie as tie

@@ -7,9 +7,9 @@ use Prim.Native.Nat.{_+_, _*_, _-_, _≤_}
 use native.Mathlib.Numerals.{add-one}
 use denote.Ref.{now}
 use Rattle.network.specs.Round.{some}
-use Rattle.routing.specs.Layout.{view}
+use Rattle.memory.specs.Layout.{view}
 use Rattle.routing.specs.Inner.{idleRow}
-use Rattle.routing.proofs.Store.{read-cost}
+use Rattle.memory.proofs.Store.{read-cost}
 use Rattle.routing.proofs.idle_row.Statement.{statement}
 use Rattle.routing.proofs.idle_row.Tie as tie
 

@@ -7,8 +7,8 @@ use mathlib.Core.Path.{_∙_}
 use lib.ListN.{length-set}
 use denote.Ref.{now}
 use borrow.Author.Tests.{lt-ltb}
-use Rattle.routing.specs.Layout.{look, view}
-use Rattle.routing.proofs.Store.{few, read-first}
+use Rattle.memory.specs.Layout.{look, view}
+use Rattle.memory.proofs.Store.{few, read-first}
 use Rattle.routing.proofs.Hearing.{primes, unprimed}
 use Rattle.routing.proofs.prime.Statement.{statement}
 use Rattle.routing.proofs.prime.Tie as tie
@@ -16,11 +16,8 @@ use Rattle.routing.proofs.prime.Tie as tie
 slice-read-origin : tie.Need-slice-read-origin
 slice-read-origin c = search needs
 
-size-requires : tie.Need-size-requires
-size-requires c κs = search needs
-
 cast-at : tie.Need-cast-at
-cast-at c = search needs
+cast-at c = omega (arith, c .slice-known2 .given 1)
 
 add-net : tie.Need-add-net
 add-net c = search needs
@@ -29,7 +26,7 @@ mul-net : tie.Need-mul-net
 mul-net c = search needs
 
 slice-write-net : tie.Need-slice-write-net
-slice-write-net c = omega (arith, few (now (c .before .before .before .before .before .args .net)), c .before .size .ensures)
+slice-write-net c = search needs
 
 add-net-2 : tie.Need-add-net-2
 add-net-2 c = search needs
@@ -38,7 +35,7 @@ mul-net-2 : tie.Need-mul-net-2
 mul-net-2 c = search needs
 
 slice-write-net-2 : tie.Need-slice-write-net-2
-slice-write-net-2 c = simp length-set (omega (arith, few (now (c .before .before .before .before .before .args .net)), c .before .size .ensures))
+slice-write-net-2 c = simp length-set (omega arith)
 
 joined-requires : tie.Need-joined-requires
 joined-requires c κs = search needs
@@ -50,26 +47,22 @@ mul-net-3 : tie.Need-mul-net-3
 mul-net-3 c = search needs
 
 slice-write-net-3 : tie.Need-slice-write-net-3
-slice-write-net-3 c = simp length-set (omega (arith, few (now (c .before .before .before .before .before .before .args .net)), c .before .before .size .ensures))
+slice-write-net-3 c = simp length-set (omega arith)
 
 same-length : tie.Need-same-length
 same-length c = search needs
 
 returns : tie.Need-returns
-returns c = let xs = now (c .before .before .before .before .before .before .args .net) in let h : look xs 1 < view xs .nodes = omega (arith, c .before .before .size .ensures) in primes xs (c .before .before .before .before .before .before .pre) (look xs 1) (c .joined .result) (read-first xs) h (c .joined .ensures ∙ rw (lt-ltb (look xs 1) 32 (omega (arith, few xs))))
-
-same-length-2 : tie.Need-same-length-2
-same-length-2 c = search needs
+returns c = let a = c .before .before .before .before .args in let w = now (a .net) in let p = c .before .before .before .before .pre in let h : look w 1 < view w .nodes = omega (arith, p .1 .is) in primes w (p .0) (look w 1) (c .joined .result) (read-first w) h (c .joined .ensures ∙ rw (lt-ltb (look w 1) 32 (omega (arith, few w))))
 
 returns-2 : tie.Need-returns-2
-returns-2 c = let xs = now (c .before .before .before .before .before .args .net) in unprimed xs (omega (arith, c .before .size .ensures, read-first xs))
+returns-2 c = let a = c .before .before .before .args in let w = now (a .net) in unprimed w (omega (arith, c .before .before .before .pre .1 .is, read-first w))
 
 pub prime-spec : {M : Type 1} → statement M
 prime-spec =
     tie.close
     (tie.spec
     slice-read-origin
-    size-requires
     cast-at
     add-net
     mul-net
@@ -83,5 +76,4 @@ prime-spec =
     slice-write-net-3
     same-length
     returns
-    same-length-2
     returns-2)

@@ -3,9 +3,9 @@
 use borrow.Author.Needs.{needs}
 use mathlib.Core.Path.{ap, _∙_}
 use denote.Ref.{now}
-use Rattle.routing.specs.Layout.{view}
+use Rattle.memory.specs.Layout.{view}
 use Rattle.routing.proofs.Renewing.{route-words, no-route-words, refused-words}
-use Rattle.routing.proofs.Store.{store-row}
+use Rattle.memory.proofs.Store.{store-row}
 use Rattle.network.specs.Network.{withRow}
 use Rattle.routing.proofs.renew_row.Statement.{statement}
 use Rattle.routing.proofs.renew_row.Tie as tie

@@ -7,8 +7,8 @@ use mathlib.Core.Path.{_≡_, sym, ap, _∙_}
 use mathlib.Core.Logic.{⊎-elim}
 use lib.ListN.{length}
 use denote.Ref.{now}
-use Rattle.routing.specs.Layout.{words, view}
-use Rattle.routing.proofs.Store.{read-first}
+use Rattle.memory.specs.Layout.{words, view}
+use Rattle.memory.proofs.Store.{read-first}
 use Rattle.routing.proofs.Renewing.{renewed-none, renewed-origin, renewing-origin, renewing-nodes, renewing-node, renewing-next, renewing-done}
 use Rattle.network.specs.Round.{renewTo}
 use Rattle.routing.proofs.renew_rows.Statement.{statement}

@@ -4,7 +4,7 @@ use borrow.Author.Needs.{needs}
 use native.Mathlib.Omega.{arith}
 use lib.ListN.{length-set}
 use denote.Ref.{now}
-use Rattle.routing.proofs.Store.{store-row}
+use Rattle.memory.proofs.Store.{store-row}
 use Rattle.routing.proofs.store_row.Statement.{statement}
 use Rattle.routing.proofs.store_row.Tie as tie
 

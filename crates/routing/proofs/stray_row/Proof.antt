@@ -8,31 +8,20 @@ use Rattle.routing.proofs.stray_row.Statement.{statement}
 use Rattle.routing.proofs.stray_row.Tie as tie
 
 returns : tie.Need-returns
-returns c =
-    let a = c .before .args in
-    let w = c .before .fits .word .fits in
-    stray-word (a .n) (a .receiver) (a .word) w (c .if1 .taken)
+returns c = let a = c .before .args in stray-word (a .n) (a .receiver) (a .word) (c .before .fits .word .fits) (c .if1 .taken)
 
 listed-requires : tie.Need-listed-requires
 listed-requires c κs = search needs
 
 returns-2 : tie.Need-returns-2
-returns-2 c =
-    let a = c .before .before .before .args in
-    stray-self (a .n) (a .receiver) (a .word) (omega arith) (sym (c .before .listed .ensures) ∙ c .if2 .taken)
+returns-2 c = let a = c .before .before .before .args in stray-self (a .n) (a .receiver) (a .word) (omega arith) (sym (c .before .listed .ensures) ∙ c .if2 .taken)
 
-wide-requires : tie.Need-wide-requires
-wide-requires c κs = search needs
-
-shr-result : tie.Need-shr-result
-shr-result c = search needs
+bit-beyond-requires : tie.Need-bit-beyond-requires
+bit-beyond-requires c κs = search needs
 
 returns-3 : tie.Need-returns-3
-returns-3 c =
-    let a = c .before .before .before .before .args in
-    let w = c .before .before .before .before .fits .word .fits in
-    rw (c .wide .ensures) (stray-high (a .n) (a .receiver) (a .word) w (omega arith) (c .before .before .before .if1 .left) (sym (c .before .before .listed .ensures) ∙ c .before .if2 .left))
+returns-3 c = let a = c .before .before .before .before .args in c .bit-beyond .ensures ∙ stray-high (a .n) (a .receiver) (a .word) (c .before .before .before .before .fits .word .fits) (omega arith) (c .before .before .before .if1 .left) (sym (c .before .before .listed .ensures) ∙ c .before .if2 .left)
 
 pub stray-row-spec : {M : Type 1} → statement M
 stray-row-spec =
-    tie.close (tie.spec returns listed-requires returns-2 wide-requires shr-result returns-3)
+    tie.close (tie.spec returns listed-requires returns-2 bit-beyond-requires returns-3)

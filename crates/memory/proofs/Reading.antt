@@ -1,0 +1,68 @@
+-- What the words give where a row, a cost or a report is read.
+-- Assumes nothing.
+use mathlib.Core.Path.{_≡_, sym, ap, _∙_}
+use mathlib.Core.Bool.{false, cond}
+use mathlib.Core.Logic.{_≢_}
+use mathlib.Core.List.{List}
+use Prim.Native.Nat.{ℕ, _+_, _*_, _<_, _≤_}
+use native.Mathlib.Omega.{arith}
+use lib.Dec.{ltb}
+use borrow.Author.Tests.{lt-ltb, le-leb, eq-eqb, ne-eqb}
+use Rattle.ancestors.specs.Ancestors.{own, hops}
+use Rattle.network.specs.Faults.{nodeFault, pairFault}
+use Rattle.network.specs.Network.{Row, Net}
+use Rattle.network.specs.Words.{reportOf}
+use Rattle.network.proofs.FaultLaws.{node-free, pair-says}
+use Rattle.memory.specs.Layout.{look, view, rowOf}
+use Rattle.memory.specs.Answers.{RowAnswer, rowHops, readRow, rowMeans, readHeld, heldMeans}
+use Rattle.memory.specs.declared.RowRead.the-variants as R
+use Rattle.memory.specs.declared.HeldRead.the-variants as H
+use Rattle.memory.proofs.Store.{few, read-relay, read-origin, read-held}
+
+-- ---- rows
+
+-- the answer for a node
+abbrev answer : Row → RowAnswer
+answer w = record { number = 0; row = w; hops = rowHops w }
+
+read-node : (x : Net) (y : ℕ) → y < x .nodes → readRow x y ≡ answer (x .row y)
+unfolding readRow
+read-node x y h = rw (node-free (x .nodes) y h)
+
+pub row-refused : (x : Net) (y : ℕ) → x .nodes ≤ y → rowMeans R.Refused ≡ readRow x y
+unfolding rowMeans readRow nodeFault
+row-refused x y h = rw (le-leb (x .nodes) y h)
+
+module _ (xs : List ℕ) (y : ℕ) (node : y < view xs .nodes) where
+  -- the origin's list and hops are computed
+  pub row-origin : (l k : ℕ) → y ≡ view xs .origin → l ≡ cond (ltb y 32) (own y) 0 → k ≡ hops l → rowMeans (R.Origin l k) ≡ readRow (view xs) y
+  unfolding rowMeans rowHops
+  row-origin l k e p q =
+      let small : y < 32 = omega (arith, few xs) in
+      rw (q, p, lt-ltb y 32 small) (sym (read-node (view xs) y node ∙ ap answer (read-origin xs y e)))
+
+  module _ (relay : y ≢ view xs .origin) where
+    pub row-none : look xs (96 + y) ≡ 0 → rowMeans R.NoRoute ≡ readRow (view xs) y
+    unfolding rowMeans rowHops rowOf
+    row-none e = sym (read-node (view xs) y node ∙ ap answer (sym (read-relay xs y node relay) ∙ rw (eq-eqb (look xs (96 + y)) 0 e)))
+
+    pub row-route : (k : ℕ) → look xs (96 + y) ≢ 0 → k ≡ hops (look xs (96 + y))
+        → rowMeans (R.Route (look xs (32 + y)) (look xs (64 + y)) (look xs (96 + y)) k) ≡ readRow (view xs) y
+    unfolding rowMeans rowHops rowOf
+    row-route k e q =
+        rw q (sym (read-node (view xs) y node ∙ ap answer (sym (read-relay xs y node relay) ∙ rw (ne-eqb (look xs (96 + y)) 0 e))))
+
+-- ---- held reports
+
+module _ (xs : List ℕ) (s r : ℕ) (e : pairFault (view xs .nodes) s r ≡ false) where
+  held-is : reportOf (look xs (1152 + (r * 32 + s))) (look xs (2176 + (r * 32 + s))) ≡ view xs .held s r
+  held-is = let p = pair-says (view xs .nodes) s r e in read-held xs s r (p .0) (p .1)
+
+  pub held-none : look xs (2176 + (r * 32 + s)) ≡ 0 → heldMeans H.Empty ≡ readHeld (view xs) s r
+  unfolding heldMeans readHeld reportOf
+  held-none z = rw (e, ← held-is, eq-eqb (look xs (2176 + (r * 32 + s))) 0 z)
+
+  pub held-told : look xs (2176 + (r * 32 + s)) ≢ 0
+      → heldMeans (H.Report (look xs (1152 + (r * 32 + s))) (look xs (2176 + (r * 32 + s)))) ≡ readHeld (view xs) s r
+  unfolding heldMeans readHeld reportOf
+  held-told z = rw (e, ← held-is, ne-eqb (look xs (2176 + (r * 32 + s))) 0 z)

@@ -1,0 +1,76 @@
+-- The fresh network in memory: zeros but for n and the origin.
+-- Assumes nothing.
+use mathlib.Core.Path.{_≡_, refl, sym, ap, _∙_}
+use mathlib.Core.Bool.{Bool, true, false, cond}
+use mathlib.Core.Logic.{_⊎_, inl, inr, _≢_}
+use mathlib.Core.List.{List}
+use Prim.Native.Nat.{ℕ, zero, suc, _+_, _*_, _<_, _≤_, min}
+use native.Mathlib.Omega.{arith}
+use lib.Dec.{eqb}
+use lib.ListN.{length, getD, set, length-set, replicate, length-replicate}
+use lib.Seq.{getD-set-same, getD-set-other}
+use borrow.Author.Tests.{lt-ltb, le-ltb, le-leb, lt-leb, eq-eqb, ne-eqb}
+use Rattle.ancestors.proofs.Cases.{le-or-lt}
+use Rattle.ancestors.specs.Ancestors.{own}
+use Rattle.network.specs.Faults.{sizeFault}
+use Rattle.network.specs.Network.{none, root, Net, freshNet, freshNumber, freshOf}
+use Rattle.network.specs.Words.{reportOf}
+use Rattle.memory.specs.Layout.{words, word, cell, rowOf, rowAt, netOf, look, view}
+use Rattle.memory.specs.Inner.{Blank}
+use Rattle.memory.specs.Answers.{Starts}
+use Rattle.memory.proofs.Store.{same-net, word-zero, cell-zero}
+use Rattle.memory.proofs.Leaving.{starts-refused, starts-accepted}
+
+zero-at : (n k : ℕ) → getD {A = ℕ} (replicate n 0) k 0 ≡ 0
+zero-at zero k = refl
+zero-at (suc n) zero = refl
+zero-at (suc n) (suc k) = zero-at n k
+
+pub blank-words : Blank (replicate {A = ℕ} 3200 0)
+blank-words = record { size = length-replicate {A = ℕ} 3200 0; zeros = zero-at 3200 }
+
+module _ (xs : List ℕ) (blank : Blank xs) (n o : ℕ) (few : n ≤ 32) where
+  abbrev ys : List ℕ
+  ys = set (set xs 0 n) 1 o
+
+  first : look ys 0 ≡ n
+  first = getD-set-other (set xs 0 n) 1 0 o 0 (λ e. omega arith) ∙ getD-set-same xs 0 n 0 (omega (arith, blank .size))
+
+  second : look ys 1 ≡ o
+  second = getD-set-same (set xs 0 n) 1 o 0 (omega (arith, length-set xs 0 n, blank .size))
+
+  rest : (k : ℕ) → 2 ≤ k → look ys k ≡ 0
+  rest k h =
+      getD-set-other (set xs 0 n) 1 k o 0 (λ e. omega arith) ∙ getD-set-other xs 0 k n 0 (λ e. omega arith) ∙ blank .zeros k
+
+  pub fresh-view : view ys ≡ freshNet n o
+  unfolding view netOf rowAt rowOf reportOf freshNet
+  fresh-view =
+      (λ j. netOf (min (first j) 32) (second j) (look ys))
+      ∙ same-net _ _ (omega arith) refl
+      (λ s r. cell-zero (min n 32) (look ys) 128 s r (λ k h. rest k (omega arith)))
+      (λ y. ap (λ w. cond (eqb y o) (root (own o)) w) (rw (word-zero (min n 32) (look ys) 96 y (λ k h. rest k (omega arith)))))
+      (λ s r. rw (cell-zero (min n 32) (look ys) 2176 s r (λ k h. rest k (omega arith))))
+
+-- ---- the fresh call
+module _ (n o : ℕ) (xs : List ℕ) where
+  module _ (v : view xs ≡ freshNet 1 0) where
+    fresh-refused : sizeFault n o ≡ true → Starts (freshOf n o) 3 xs
+    unfolding freshOf freshNumber
+    fresh-refused e = starts-refused 3 _ _ _ xs (rw e) (λ z. omega arith) v
+
+    pub fresh-no-node : n ≡ 0 → Starts (freshOf n o) 3 xs
+    unfolding sizeFault
+    fresh-no-node e = fresh-refused (rw (eq-eqb n 0 e))
+
+    pub fresh-many : n ≢ 0 → 32 < n → Starts (freshOf n o) 3 xs
+    unfolding sizeFault
+    fresh-many d e = fresh-refused (rw (ne-eqb n 0 d, lt-ltb 32 n e))
+
+    pub fresh-no-origin : n ≢ 0 → n ≤ 32 → n ≤ o → Starts (freshOf n o) 3 xs
+    unfolding sizeFault
+    fresh-no-origin d e f = fresh-refused (rw (ne-eqb n 0 d, le-ltb 32 n e, le-leb n o f))
+
+  pub fresh-accepted : n ≢ 0 → n ≤ 32 → o < n → view xs ≡ freshNet n o → Starts (freshOf n o) 0 xs
+  unfolding freshOf freshNumber sizeFault
+  fresh-accepted d e f v = starts-accepted _ _ _ xs (rw (ne-eqb n 0 d, le-ltb 32 n e, lt-leb n o f)) v

@@ -1,0 +1,48 @@
+-- `memory::report_number` meets its contract, test by test.
+-- Assumes nothing.
+use borrow.Author.Needs.{needs}
+use mathlib.Core.Bool.{true, false}
+use mathlib.Core.Path.{_≡_, sym, _∙_}
+use denote.Ref.{now}
+use Rattle.network.specs.Faults.{pairFault, reportFault}
+use Rattle.network.specs.Network.{placeReportNumber}
+use Rattle.memory.specs.Layout.{view}
+use Rattle.memory.proofs.Store.{sender-node, receiver-node}
+use Rattle.memory.proofs.report_number.Statement.{statement}
+use Rattle.memory.proofs.report_number.Tie as tie
+
+nodes-requires : tie.Need-nodes-requires
+nodes-requires c κs = search needs
+
+pair-fault-requires : tie.Need-pair-fault-requires
+pair-fault-requires c κs = search needs
+
+returns : tie.Need-returns
+unfolding placeReportNumber
+returns c = let a = c .before .before .before .args in let w = now (a .net) in let e : pairFault (view w .nodes) (a .sender) (a .receiver) ≡ true = cc in rw e
+
+cost-word-requires : tie.Need-cost-word-requires
+cost-word-requires c κs = let a = c .before .before .before .before .args in let w = now (a .net) in let n = c .before .before .before .nodes .ensures in let f = (sym (c .before .before .pair-fault .ensures) ∙ c .before .if1 .left) in let s = sender-node w _ (a .sender) (a .receiver) n f in let r = receiver-node w _ (a .sender) (a .receiver) n f in (search needs, (s, r))
+
+report-fault-requires : tie.Need-report-fault-requires
+report-fault-requires c κs = search needs
+
+returns-2 : tie.Need-returns-2
+unfolding placeReportNumber
+returns-2 c = let a = c .before .before .before .before .before .before .before .args in let w = now (a .net) in let e : pairFault (view w .nodes) (a .sender) (a .receiver) ≡ false = cc in let f : reportFault (view w .nodes) (view w .cost (a .sender) (a .receiver)) (a .sender) (a .label) (a .list) ≡ true = cc in rw (e, f)
+
+returns-3 : tie.Need-returns-3
+unfolding placeReportNumber
+returns-3 c = let a = c .before .before .before .before .before .before .before .args in let w = now (a .net) in let e : pairFault (view w .nodes) (a .sender) (a .receiver) ≡ false = cc in let f : reportFault (view w .nodes) (view w .cost (a .sender) (a .receiver)) (a .sender) (a .label) (a .list) ≡ false = cc in rw (e, f)
+
+pub report-number-spec : {M : Type 1} → statement M
+report-number-spec =
+    tie.close
+    (tie.spec
+    nodes-requires
+    pair-fault-requires
+    returns
+    cost-word-requires
+    report-fault-requires
+    returns-2
+    returns-3)

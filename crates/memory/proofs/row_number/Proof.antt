@@ -1,0 +1,48 @@
+-- `memory::row_number` meets its contract, test by test.
+-- Assumes nothing.
+use borrow.Author.Needs.{needs}
+use native.Mathlib.Omega.{arith}
+use Prim.Native.Nat.{_<_, _≤_}
+use mathlib.Core.Bool.{true, false}
+use mathlib.Core.Path.{_≡_}
+use denote.Ref.{now}
+use borrow.Author.Tests.{le-leb}
+use Rattle.network.specs.Faults.{nodeFault, rowFault}
+use Rattle.network.specs.Network.{placeRowNumber}
+use Rattle.network.proofs.FaultLaws.{node-free}
+use Rattle.memory.specs.Layout.{view}
+use Rattle.memory.proofs.Store.{read-first}
+use Rattle.memory.proofs.row_number.Statement.{statement}
+use Rattle.memory.proofs.row_number.Tie as tie
+
+nodes-requires : tie.Need-nodes-requires
+nodes-requires c κs = search needs
+
+returns : tie.Need-returns
+unfolding placeRowNumber nodeFault
+returns c = let a = c .before .before .args in let w = now (a .net) in let h : view w .nodes ≤ a .node = omega arith in rw (le-leb (view w .nodes) (a .node) h)
+
+element-copy-out-row-fault : tie.Need-element-copy-out-row-fault
+element-copy-out-row-fault c = search needs
+
+row-fault-requires : tie.Need-row-fault-requires
+row-fault-requires c κs = search needs
+
+returns-2 : tie.Need-returns-2
+unfolding placeRowNumber
+returns-2 c = let a = c .before .before .before .before .before .args in let w = now (a .net) in let o = read-first w in let h : a .node < view w .nodes = omega arith in let e : rowFault (view w .nodes) (view w .origin) (a .node) (a .label) (a .predecessor) (a .list) ≡ true = cc in rw (node-free (view w .nodes) (a .node) h, e)
+
+returns-3 : tie.Need-returns-3
+unfolding placeRowNumber
+returns-3 c = let a = c .before .before .before .before .before .args in let w = now (a .net) in let o = read-first w in let h : a .node < view w .nodes = omega arith in let e : rowFault (view w .nodes) (view w .origin) (a .node) (a .label) (a .predecessor) (a .list) ≡ false = cc in rw (node-free (view w .nodes) (a .node) h, e)
+
+pub row-number-spec : {M : Type 1} → statement M
+row-number-spec =
+    tie.close
+    (tie.spec
+    nodes-requires
+    returns
+    element-copy-out-row-fault
+    row-fault-requires
+    returns-2
+    returns-3)

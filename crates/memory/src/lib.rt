@@ -1,0 +1,308 @@
+// A network in words that the caller lends: fresh networks, changes and grades, and the reading and placing of arcs, rows and reports.
+//
+// Contracts go through `view`, the network that the words give (specs/Layout.antt), and hold for any words. A refused call leaves every
+// word as it stood. No public function has a `requires`.
+ghost use mathlib.Core.Path.{_≡_};
+ghost use mathlib.Core.Bool.{_||_, cond};
+ghost use Prim.Native.Nat.{_<_, _≤_};
+ghost use lib.ListN.{length};
+ghost use lib.Dec.{eqb};
+ghost use Rattle.network.specs.Network.{freshNet, freshOf, placeRowNumber, placeRowOf, placeReportNumber, placeReportOf};
+ghost use Rattle.network.specs.Change.{changed, changeOf, gradeOf};
+ghost use Rattle.memory.specs.Layout.{words, view};
+ghost use Rattle.memory.specs.Inner.{Node, Blank};
+ghost use Rattle.memory.specs.Answers.{Leaves, Starts, readRow, rowMeans, readCost, costMeans, readHeld, heldMeans};
+
+// The words of a network; specs/Layout.antt says where what lies.
+pub type Network = [u32; 3200];
+
+// What `fresh` answers: a number, 0 or 3, and a network.
+pub struct NewNetwork {
+    pub number: u8,
+    pub net: Network,
+}
+
+// A node's row as it is read.
+pub enum RowRead {
+    // 3: the node is not below n.
+    Refused,
+    NoRoute,
+    // Label 0 and no predecessor.
+    Origin {
+        list: u32,
+        hops: u32,
+    },
+    Route {
+        label: u32,
+        predecessor: u32,
+        list: u32,
+        hops: u32,
+    },
+}
+
+// An arc's cost as it is read, 0 where there is no arc. The number is 3 where a node is not below n, or sender equals receiver.
+pub struct CostRead {
+    pub number: u8,
+    pub cost: u32,
+}
+
+// A held report as it is read.
+pub enum HeldRead {
+    // 3: a node is not below n, or sender equals receiver.
+    Refused,
+    Empty,
+    Report { label: u32, list: u32 },
+}
+
+// The number of nodes.
+pub fn nodes(net: &Network) -> u32
+    ensures { λ r. ⌜ r ≡ view (now (net .entry)) .nodes ⌝ }
+{
+    let n = net[0];
+    if 32 < n {
+        return 32;
+    }
+    n
+}
+
+// The origin.
+pub fn origin(net: &Network) -> u32
+    ensures { λ r. ⌜ r ≡ view (now (net .entry)) .origin ⌝ }
+{
+    net[1]
+}
+
+// ---- fresh
+
+fn zeros() -> Network
+    ensures { λ r. ⌜ Blank r ⌝ }
+{
+    [0u32; 3200]
+}
+
+fn fresh_words(n: u32, origin: u32) -> Network
+    requires { ⌜ n ≤ 32 ⌝ }
+    requires { ⌜ origin < n ⌝ }
+    ensures { λ r. ⌜ view r ≡ freshNet n origin ⌝ }
+{
+    let mut net = zeros();
+    net[0] = n;
+    net[1] = origin;
+    net
+}
+
+// A network of n nodes with no arcs and no routes but the origin's; refused as 3, the fresh network of one node.
+pub fn fresh(n: u32, origin: u32) -> NewNetwork
+    ensures { λ r. ⌜ Starts (freshOf n origin) (r .number) (r .net) ⌝ }
+{
+    if n == 0 {
+        let net = fresh_words(1, 0);
+        return NewNetwork {
+            number: 3,
+            net: net,
+        };
+    }
+    if network::MAX_NODES < n {
+        let net = fresh_words(1, 0);
+        return NewNetwork {
+            number: 3,
+            net: net,
+        };
+    }
+    if n <= origin {
+        let net = fresh_words(1, 0);
+        return NewNetwork {
+            number: 3,
+            net: net,
+        };
+    }
+    let net = fresh_words(n, origin);
+    NewNetwork {
+        number: 0,
+        net: net,
+    }
+}
+
+// ---- change and grade
+
+// The list of an arc's report after a change: a removed or a new arc holds an empty report.
+fn kept_list(cost: u32, old: u32, list: u32) -> u32
+    ensures { λ r. ⌜ r ≡ cond (eqb cost 0 || eqb old 0) 0 list ⌝ }
+{
+    if cost == 0 {
+        return 0;
+    }
+    if old == 0 {
+        return 0;
+    }
+    list
+}
+
+fn set_arc(net: &mut [u32], sender: u32, receiver: u32, cost: u32)
+    requires { ⌜ length (now net) ≡ words ⌝ }
+    requires { ⌜ Node (now net) sender ⌝ }
+    requires { ⌜ Node (now net) receiver ⌝ }
+    ensures { λ _. ⌜ view (now (net .exit)) ≡ changed (view (now (net .entry))) sender receiver cost ⌝ }
+{
+    let at = receiver as usize * 32 + sender as usize;
+    net[2176 + at] = kept_list(cost, net[128 + at], net[2176 + at]);
+    net[128 + at] = cost;
+}
+
+// Sets the cost of a pair; cost 0 removes the arc. Answers 0, or 3 for a bad pair or a cost above 65,535.
+pub fn change(net: &mut Network, sender: u32, receiver: u32, cost: u32) -> u8
+    ensures { λ k. ⌜ Leaves (changeOf (view (now (net .entry))) sender receiver cost) k (now (net .entry)) (now (net .exit)) ⌝ }
+{
+    if network::pair_fault(nodes(net), sender, receiver) {
+        return 3;
+    }
+    if network::MAX_COST < cost {
+        return 3;
+    }
+    set_arc(net, sender, receiver, cost);
+    0
+}
+
+// Sets the cost of a pair to that of a grade; grade 0 removes the arc. Answers 0, or 3 for a bad pair or a grade above 15.
+pub fn grade(net: &mut Network, sender: u32, receiver: u32, grade: u32) -> u8
+    ensures { λ k. ⌜ Leaves (gradeOf (view (now (net .entry))) sender receiver grade) k (now (net .entry)) (now (net .exit)) ⌝ }
+{
+    if network::pair_fault(nodes(net), sender, receiver) {
+        return 3;
+    }
+    if network::MAX_GRADE < grade {
+        return 3;
+    }
+    set_arc(net, sender, receiver, network::grade_cost(grade));
+    0
+}
+
+// ---- reading
+
+// A node's row, with its hops.
+pub fn row(net: &Network, node: u32) -> RowRead
+    ensures { λ r. ⌜ rowMeans r ≡ readRow (view (now (net .entry))) node ⌝ }
+{
+    if nodes(net) <= node {
+        return RowRead::Refused;
+    }
+    if node == net[1] {
+        let own = ancestors::joined(0, node);
+        return RowRead::Origin {
+            list: own,
+            hops: ancestors::count_hops(own),
+        };
+    }
+    let y = node as usize;
+    let list = net[96 + y];
+    if list == 0 {
+        return RowRead::NoRoute;
+    }
+    RowRead::Route {
+        label: net[32 + y],
+        predecessor: net[64 + y],
+        list: list,
+        hops: ancestors::count_hops(list),
+    }
+}
+
+fn cost_word(net: &[u32], sender: u32, receiver: u32) -> u32
+    requires { ⌜ length (now net) ≡ words ⌝ }
+    requires { ⌜ Node (now net) sender ⌝ }
+    requires { ⌜ Node (now net) receiver ⌝ }
+    ensures { λ r. ⌜ r ≡ view (now (net .entry)) .cost sender receiver ⌝ }
+{
+    net[128 + (receiver as usize * 32 + sender as usize)]
+}
+
+// The cost of the arc from sender to receiver.
+pub fn arc_cost(net: &Network, sender: u32, receiver: u32) -> CostRead
+    ensures { λ r. ⌜ costMeans r ≡ readCost (view (now (net .entry))) sender receiver ⌝ }
+{
+    if network::pair_fault(nodes(net), sender, receiver) {
+        return CostRead { number: 3, cost: 0 };
+    }
+    CostRead {
+        number: 0,
+        cost: cost_word(net, sender, receiver),
+    }
+}
+
+// The report that the arc from sender to receiver holds.
+pub fn held(net: &Network, sender: u32, receiver: u32) -> HeldRead
+    ensures { λ r. ⌜ heldMeans r ≡ readHeld (view (now (net .entry))) sender receiver ⌝ }
+{
+    if network::pair_fault(nodes(net), sender, receiver) {
+        return HeldRead::Refused;
+    }
+    let at = receiver as usize * 32 + sender as usize;
+    let list = net[2176 + at];
+    if list == 0 {
+        return HeldRead::Empty;
+    }
+    HeldRead::Report {
+        label: net[1152 + at],
+        list: list,
+    }
+}
+
+// ---- placing
+
+// What `place_row` would answer.
+pub fn row_number(net: &Network, node: u32, label: u32, predecessor: u32, list: u32) -> u8
+    ensures { λ k. ⌜ k ≡ placeRowNumber (view (now (net .entry))) node label predecessor list ⌝ }
+{
+    let n = nodes(net);
+    if n <= node {
+        return 3;
+    }
+    if network::row_fault(n, net[1], node, label, predecessor, list) {
+        return 5;
+    }
+    0
+}
+
+// Sets a relay's row. Answers 0; 3 for a node not below n; 5 for a fault of form.
+pub fn place_row(net: &mut Network, node: u32, label: u32, predecessor: u32, list: u32) -> u8
+    ensures { λ k. ⌜ Leaves (placeRowOf (view (now (net .entry))) node label predecessor list) k (now (net .entry)) (now (net .exit)) ⌝ }
+{
+    let k = row_number(net, node, label, predecessor, list);
+    if k != 0 {
+        return k;
+    }
+    let y = node as usize;
+    let all: &mut [u32] = net;
+    all[32 + y] = label;
+    all[64 + y] = predecessor;
+    all[96 + y] = list;
+    0
+}
+
+// What `place_report` would answer.
+pub fn report_number(net: &Network, sender: u32, receiver: u32, label: u32, list: u32) -> u8
+    ensures { λ k. ⌜ k ≡ placeReportNumber (view (now (net .entry))) sender receiver label list ⌝ }
+{
+    let n = nodes(net);
+    if network::pair_fault(n, sender, receiver) {
+        return 3;
+    }
+    if network::report_fault(n, cost_word(net, sender, receiver), sender, label, list) {
+        return 5;
+    }
+    0
+}
+
+// Sets the report that an arc holds. Answers 0; 3 for a bad pair; 5 for a fault of form, as a pair without an arc.
+pub fn place_report(net: &mut Network, sender: u32, receiver: u32, label: u32, list: u32) -> u8
+    ensures { λ k. ⌜ Leaves (placeReportOf (view (now (net .entry))) sender receiver label list) k (now (net .entry)) (now (net .exit)) ⌝ }
+{
+    let k = report_number(net, sender, receiver, label, list);
+    if k != 0 {
+        return k;
+    }
+    let at = receiver as usize * 32 + sender as usize;
+    let all: &mut [u32] = net;
+    all[1152 + at] = label;
+    all[2176 + at] = list;
+    0
+}
