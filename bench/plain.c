@@ -48,10 +48,10 @@ int plain_round(struct plain_net *x, const uint32_t *marks, uint64_t count)
 {
     if (count != 32)
         return 1;
+    uint32_t all = x->n == 32 ? 0xffffffff : (1u << x->n) - 1;
     for (uint32_t r = 0; r < 32; r++)
-        for (uint32_t s = 0; s < 32; s++)
-            if ((marks[r] >> s & 1) && (r >= x->n || s >= x->n || r == s))
-                return 3;
+        if (marks[r] & ~(r < x->n ? all & ~(1u << r) : 0))
+            return 3;
     for (uint32_t r = 0; r < x->n; r++)
         for (uint32_t s = 0; s < x->n; s++)
             if ((marks[r] >> s & 1) && x->cost[r][s] == 0)

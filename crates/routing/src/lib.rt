@@ -118,10 +118,9 @@ fn choose_row(net: &[u32], n: usize, receiver: usize) -> Choice
     requires { ⌜ Node (now net) receiver ⌝ }
     ensures { λ r. ⌜ choiceMeans r ≡ chosen (choice n (λ s. view (now (net .entry)) .cost s receiver) (λ s. view (now (net .entry)) .held s receiver) receiver) ⌝ }
 {
-    let base = receiver * 32;
-    let c = 128 + base;
-    let d = 1152 + base;
-    let l = 2176 + base;
+    let c = 128 + receiver * 32;
+    let d = 1152 + receiver * 32;
+    let l = 2176 + receiver * 32;
     network::choose(
         &net[c..c + n],
         &net[d..d + n],

@@ -7,14 +7,20 @@ use Rattle.routing.proofs.Renewing.{choose-words}
 use Rattle.routing.proofs.choose_row.Statement.{statement}
 use Rattle.routing.proofs.choose_row.Tie as tie
 
-mul-base : tie.Need-mul-base
-mul-base c = search needs
+mul-c : tie.Need-mul-c
+mul-c c = search needs
 
 add-c : tie.Need-add-c
 add-c c = search needs
 
+mul-d : tie.Need-mul-d
+mul-d c = search needs
+
 add-d : tie.Need-add-d
 add-d c = search needs
+
+mul-l : tie.Need-mul-l
+mul-l c = search needs
 
 add-l : tie.Need-add-l
 add-l c = search needs
@@ -77,9 +83,11 @@ pub choose-row-spec : {M : Type 1} → statement M
 choose-row-spec =
     tie.close
     (tie.spec
-    mul-base
+    mul-c
     add-c
+    mul-d
     add-d
+    mul-l
     add-l
     add-choose
     mul-choose
