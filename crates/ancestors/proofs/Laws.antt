@@ -1,7 +1,7 @@
 -- Laws of ancestor lists: what putting a node in changes, bounds, and the ones counted. Only here and in Words do `has`, `put` and `hops` open.
 -- Assumes nothing.
 use mathlib.Core.Path.{_≡_, refl, sym, ap, ap₂, subst, _∙_}
-use mathlib.Core.Bool.{Bool, true, false}
+use mathlib.Core.Bool.{true, false}
 use mathlib.Core.Logic.{_⊎_, inl, inr, _≢_}
 use Prim.Native.Nat.{ℕ, zero, suc, _+_, _-_, _*_, _/_, _%_, _^_, _<_, _≤_, max}
 use native.Mathlib.Omega.{arith}

@@ -1,7 +1,6 @@
 // The round calls under C names, for the benchmark in bench/. Each is the call itself, with its contract.
 use memory::Network;
 ghost use mathlib.Core.Path.{_≡_};
-ghost use Rattle.network.specs.Network.{freshOf};
 ghost use Rattle.network.specs.Round.{roundOf, fullRoundOf};
 ghost use Rattle.network.specs.Change.{changeOf};
 ghost use Rattle.memory.specs.Layout.{view};

@@ -1,8 +1,7 @@
 -- What a change or a grade leaves, from the words stored.
 -- Assumes nothing.
-use mathlib.Core.Path.{_≡_, refl, sym, ap, _∙_}
+use mathlib.Core.Path.{_≡_, refl, ap, _∙_}
 use mathlib.Core.Bool.{Bool, true, false, cond, _||_}
-use mathlib.Core.Logic.{_≢_}
 use mathlib.Core.List.{List}
 use Prim.Native.Nat.{ℕ, _+_, _*_, _<_, _≤_}
 use native.Mathlib.Omega.{arith}
@@ -10,7 +9,7 @@ use lib.Dec.{eqb}
 use lib.ListN.{length, set}
 use borrow.Author.Tests.{lt-ltb, le-ltb}
 use Rattle.network.specs.Faults.{pairFault, costFault, gradeFault}
-use Rattle.network.specs.Network.{Report, empty, Net, withCost, withHeld}
+use Rattle.network.specs.Network.{empty, withCost, withHeld}
 use Rattle.network.specs.Change.{changed, changeNumber, changeOf, gradeCost, gradeNumber, gradeOf}
 use Rattle.network.specs.Words.{reportOf}
 use Rattle.memory.specs.Layout.{words, look, view}

@@ -1,21 +1,20 @@
 -- The fresh network in memory: zeros but for n and the origin.
 -- Assumes nothing.
-use mathlib.Core.Path.{_≡_, refl, sym, ap, _∙_}
-use mathlib.Core.Bool.{Bool, true, false, cond}
-use mathlib.Core.Logic.{_⊎_, inl, inr, _≢_}
+use mathlib.Core.Path.{_≡_, refl, ap, _∙_}
+use mathlib.Core.Bool.{true, cond}
+use mathlib.Core.Logic.{_≢_}
 use mathlib.Core.List.{List}
-use Prim.Native.Nat.{ℕ, zero, suc, _+_, _*_, _<_, _≤_, min}
+use Prim.Native.Nat.{ℕ, zero, suc, _<_, _≤_, min}
 use native.Mathlib.Omega.{arith}
 use lib.Dec.{eqb}
-use lib.ListN.{length, getD, set, length-set, replicate, length-replicate}
+use lib.ListN.{getD, set, length-set, replicate, length-replicate}
 use lib.Seq.{getD-set-same, getD-set-other}
 use borrow.Author.Tests.{lt-ltb, le-ltb, le-leb, lt-leb, eq-eqb, ne-eqb}
-use Rattle.ancestors.proofs.Cases.{le-or-lt}
 use Rattle.ancestors.specs.Ancestors.{own}
 use Rattle.network.specs.Faults.{sizeFault}
-use Rattle.network.specs.Network.{none, root, Net, freshNet, freshNumber, freshOf}
+use Rattle.network.specs.Network.{root, freshNet, freshNumber, freshOf}
 use Rattle.network.specs.Words.{reportOf}
-use Rattle.memory.specs.Layout.{words, word, cell, rowOf, rowAt, netOf, look, view}
+use Rattle.memory.specs.Layout.{rowOf, rowAt, netOf, look, view}
 use Rattle.memory.specs.Inner.{Blank}
 use Rattle.memory.specs.Answers.{Starts}
 use Rattle.memory.proofs.Store.{same-net, word-zero, cell-zero}

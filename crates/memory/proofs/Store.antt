@@ -1,18 +1,18 @@
 -- What stores do to the network that the words give. Address arithmetic stands here alone.
 -- Assumes nothing.
-use mathlib.Core.Path.{_≡_, refl, sym, ap, ap₂, subst, _∙_}
-use mathlib.Core.Bool.{Bool, true, false, cond, _&&_, and-false}
+use mathlib.Core.Path.{_≡_, refl, sym, ap, _∙_}
+use mathlib.Core.Bool.{false, cond, _&&_, and-false}
 use mathlib.Core.Logic.{_⊎_, inl, inr, _≢_, ⊎-elim}
 use mathlib.Core.List.{List}
-use Prim.Native.Nat.{ℕ, zero, suc, _+_, _*_, _<_, _≤_, min}
+use Prim.Native.Nat.{ℕ, _+_, _*_, _<_, _≤_, min}
 use native.Mathlib.Omega.{arith}
 use lib.Dec.{eqb, ltb}
-use lib.ListN.{length, getD, set, length-set}
+use lib.ListN.{length, set, length-set}
 use lib.Seq.{getD-set-same, getD-set-other}
 use borrow.Author.Tests.{lt-ltb, le-ltb, eq-eqb, ne-eqb}
 use Rattle.ancestors.specs.Ancestors.{own}
 use Rattle.ancestors.proofs.Cases.{le-or-lt, eq-or-ne, eqb-same}
-use Rattle.network.specs.Network.{Row, none, root, via, Report, Net, setPair, setAt, withCost, withHeld, withRow}
+use Rattle.network.specs.Network.{root, Report, Net, setPair, setAt, withCost, withHeld, withRow}
 use Rattle.network.specs.Faults.{pairFault}
 use Rattle.network.specs.Words.{reportOf}
 use Rattle.network.proofs.FaultLaws.{pair-says}

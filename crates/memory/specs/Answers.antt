@@ -1,10 +1,9 @@
 -- What the calls answer: number and values of each case of an enum, and the memory after a call.
 -- Assumes nothing.
 use mathlib.Core.Path.{_≡_}
-use mathlib.Core.Bool.{Bool, cond}
+use mathlib.Core.Bool.{cond}
 use mathlib.Core.List.{List}
 use Prim.Native.Nat.{ℕ}
-use lib.Dec.{eqb}
 use Rattle.ancestors.specs.Ancestors.{hops}
 use Rattle.network.specs.Faults.{nodeFault, pairFault}
 use Rattle.network.specs.Network.{Row, none, root, via, Report, empty, told, Net, Outcome}

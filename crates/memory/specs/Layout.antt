@@ -3,7 +3,7 @@
 -- 128 on costs, from 1,152 labels, from 2,176 lists of held reports. A list of 0 is no route, or an empty report.
 -- The origin's row is not read from memory, an n above 32 counts as 32, and what lies at nodes not below n plays no part.
 -- Assumes nothing.
-use mathlib.Core.Bool.{Bool, cond, _&&_}
+use mathlib.Core.Bool.{cond, _&&_}
 use mathlib.Core.List.{List}
 use Prim.Native.Nat.{ℕ, _+_, _*_, min}
 use lib.Dec.{eqb, ltb}

@@ -1,10 +1,10 @@
 -- The winner as a loop keeps it: the least sum so far, above the largest label where there is none, and its sender.
 -- Assumes nothing.
-use mathlib.Core.Path.{_≡_, refl, sym, ap, subst, _∙_}
-use mathlib.Core.Bool.{Bool, true, false, cond, not, _&&_, _||_, or-true}
+use mathlib.Core.Path.{_≡_, refl, ap}
+use mathlib.Core.Bool.{Bool, true, false, cond, _||_, or-true}
 use mathlib.Core.Logic.{_⊎_, inl, inr, _≢_}
 use mathlib.Core.List.{List}
-use Prim.Native.Nat.{ℕ, zero, suc, _+_, _<_, _≤_}
+use Prim.Native.Nat.{ℕ, _+_, _<_, _≤_}
 use native.Mathlib.Omega.{arith}
 use native.Mathlib.Numerals.{add-one}
 use lib.Dec.{eqb, ltb, leb}
@@ -13,7 +13,7 @@ use borrow.Author.Tests.{lt-ltb, le-ltb, le-leb, lt-leb, ltb-false, eq-eqb, ne-e
 use Rattle.ancestors.specs.Ancestors.{has, put}
 use Rattle.ancestors.proofs.Cases.{le-or-lt, eq-or-ne, bool-cases}
 use Rattle.network.specs.Faults.{maxLabel}
-use Rattle.network.specs.Network.{Row, none, via, Report, empty, told}
+use Rattle.network.specs.Network.{none, via, Report, empty, told}
 use Rattle.network.specs.Round.{offer, Winner, nobody, sender, against, winner, listOf, rowBy, choice}
 use Rattle.network.specs.Words.{reportOf, reports, costsOf}
 use Rattle.network.specs.declared.Offer.{Offer}

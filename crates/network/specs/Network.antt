@@ -1,11 +1,11 @@
 -- Document 01, "The network": rows, held reports, networks, the fresh network, and the limits.
 -- Assumes nothing.
 use mathlib.Core.Path.{_≡_}
-use mathlib.Core.Bool.{Bool, false, cond, _&&_}
+use mathlib.Core.Bool.{false, cond, _&&_}
 use Prim.Native.Nat.{ℕ, _<_, _≤_}
 use lib.Dec.{eqb}
 use Rattle.ancestors.specs.Ancestors.{own}
-use Rattle.network.specs.Faults.{maxNodes, maxCost, sizeFault, nodeFault, pairFault, rowFault, reportFault}
+use Rattle.network.specs.Faults.{maxCost, sizeFault, nodeFault, pairFault, rowFault, reportFault}
 
 -- a node's row: no route; the origin's, of label 0 and no predecessor, with its list; or label, predecessor and list
 pub data Row : Type 0 where

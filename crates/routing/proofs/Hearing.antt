@@ -4,19 +4,19 @@ use mathlib.Core.Path.{_≡_, refl, sym, ap, ap₂, subst, _∙_}
 use mathlib.Core.Bool.{Bool, true, false, cond, _&&_, _||_, and-false, or-false}
 use mathlib.Core.Logic.{_⊎_, inl, inr, _≢_}
 use mathlib.Core.List.{List}
-use Prim.Native.Nat.{ℕ, zero, suc, _+_, _*_, _<_, _≤_, min}
+use Prim.Native.Nat.{ℕ, _+_, _*_, _<_, _≤_}
 use native.Mathlib.Omega.{arith}
 use lib.Dec.{eqb, ltb}
 use lib.ListN.{length, getD, set, length-set}
 use lib.Seq.{getD-set-same, getD-set-other}
-use borrow.Author.Tests.{lt-ltb, le-ltb, eq-eqb, ne-eqb, ltb-true}
+use borrow.Author.Tests.{lt-ltb, le-ltb, eq-eqb, ne-eqb}
 use Rattle.ancestors.specs.Ancestors.{has, own}
-use Rattle.ancestors.proofs.Cases.{le-or-lt, eq-or-ne, bool-cases, eqb-same, ltb-other, and-both}
+use Rattle.ancestors.proofs.Cases.{le-or-lt, eq-or-ne, eqb-same, ltb-other}
 use Rattle.ancestors.proofs.Laws.{put-some}
-use Rattle.network.specs.Network.{Row, none, root, via, Report, empty, told, Net, setPair, withHeld}
+use Rattle.network.specs.Network.{none, root, via, Report, empty, told, Net, setPair, withHeld}
 use Rattle.network.specs.Round.{Marks, report, hear, everyArc}
 use Rattle.network.specs.Words.{reportOf}
-use Rattle.memory.specs.Layout.{words, cell, rowOf, netOf, look, view}
+use Rattle.memory.specs.Layout.{words, rowOf, look, view}
 use Rattle.memory.specs.Inner.{Node}
 use Rattle.routing.specs.Inner.{Nodes, Primed, Hears, oneMark, rowMarks, wordMarks, arcRow, arcMarks}
 use Rattle.memory.proofs.Store.{same-net, few, cost-beyond, read-held, read-relay, read-origin, store-report, store-origin}

@@ -1,18 +1,18 @@
 -- Choosing from the words of a receiver, and renewing row by row, come to the second half of a round.
 -- Assumes nothing.
-use mathlib.Core.Path.{_≡_, refl, sym, ap, ap₂, subst, _∙_}
-use mathlib.Core.Bool.{Bool, true, false, cond, not, _&&_, _||_}
+use mathlib.Core.Path.{_≡_, refl, sym, ap, ap₂, _∙_}
+use mathlib.Core.Bool.{cond, not, _&&_}
 use mathlib.Core.Logic.{_⊎_, inl, inr, _≢_}
 use mathlib.Core.List.{List}
-use Prim.Native.Nat.{ℕ, zero, suc, _+_, _-_, _*_, _<_, _≤_}
+use Prim.Native.Nat.{ℕ, _+_, _-_, _*_, _<_, _≤_}
 use native.Mathlib.Omega.{arith}
 use lib.Dec.{eqb, ltb}
 use lib.ListN.{length, getD, take, drop, length-take, length-drop}
-use lib.Seq.{getD-take, getD-drop, length-take-le}
-use borrow.Author.Tests.{lt-ltb, le-ltb, lt-leb, eq-eqb, ne-eqb}
+use lib.Seq.{getD-take, getD-drop}
+use borrow.Author.Tests.{lt-ltb, le-ltb, lt-leb, ne-eqb}
 use Rattle.ancestors.proofs.Cases.{eq-or-ne, eqb-same, ltb-other}
 use Rattle.ancestors.proofs.Laws.{put-some}
-use Rattle.network.specs.Network.{Row, none, root, via, Report, Net, setAt, withRow}
+use Rattle.network.specs.Network.{Row, via, Report, Net, setAt, withRow}
 use Rattle.network.specs.Round.{choice, renewTo, renew}
 use Rattle.network.specs.Words.{reports, costsOf, ChoiceAnswer, chosen, wordsFault, chooseOf, choiceMeans}
 use Rattle.network.specs.declared.Choice.{Choice}

@@ -1,15 +1,13 @@
 -- What a round leaves: its refusals, and hearing and then new rows.
 -- Assumes nothing.
 use mathlib.Core.Path.{_≡_, refl, sym, ap, _∙_}
-use mathlib.Core.Bool.{Bool, true, false, cond, not}
+use mathlib.Core.Bool.{true, false}
 use mathlib.Core.Logic.{_≢_}
 use mathlib.Core.List.{List}
-use Prim.Native.Nat.{ℕ, _<_, _≤_}
+use Prim.Native.Nat.{ℕ}
 use native.Mathlib.Omega.{arith}
-use lib.Dec.{eqb}
 use lib.ListN.{length}
 use borrow.Author.Tests.{eq-eqb, ne-eqb}
-use Rattle.network.specs.Network.{Net}
 use Rattle.network.specs.Round.{marked, everyArc, hear, renew, round, strayMark, idleMark, roundNumber, roundOf, fullRoundOf}
 use Rattle.network.proofs.Effects.{accepted-net}
 use Rattle.memory.specs.Layout.{view}

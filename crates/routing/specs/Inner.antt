@@ -1,16 +1,16 @@
 -- What the private functions do: the parts of a round.
 -- Assumes nothing.
 use mathlib.Core.Path.{_≡_}
-use mathlib.Core.Bool.{Bool, cond, _&&_}
+use mathlib.Core.Bool.{Bool, _&&_}
 use mathlib.Core.List.{List}
 use Prim.Native.Nat.{ℕ, _+_, _<_, _≤_}
 use lib.Dec.{eqb, ltb}
-use lib.ListN.{length, getD}
+use lib.ListN.{getD}
 use Rattle.ancestors.specs.Ancestors.{has, own}
 use Rattle.network.specs.Faults.{pairFault}
 use Rattle.network.specs.Network.{Net}
 use Rattle.network.specs.Round.{Marks, some}
-use Rattle.memory.specs.Layout.{words, look, view}
+use Rattle.memory.specs.Layout.{look, view}
 
 -- n is the number of nodes
 pub record Nodes (xs : List ℕ) (n : ℕ) : Type 0 where

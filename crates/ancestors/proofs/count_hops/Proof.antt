@@ -1,7 +1,5 @@
 -- `ancestors::count_hops` meets its contract: a list that is not 0 has a one.
 -- Assumes nothing.
-use mathlib.Core.Path.{_≡_, refl, ap}
-use native.Mathlib.Omega.{arith}
 use borrow.Author.Needs.{needs}
 use lib.Count.{ones}
 use Rattle.ancestors.specs.Ancestors.{hops}
