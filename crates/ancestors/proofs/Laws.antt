@@ -1,4 +1,5 @@
--- Laws of ancestor lists: what putting a node in changes, bounds, and the ones counted. Only here and in Words do `has`, `put` and `hops` open.
+-- Laws of ancestor lists: what putting a node in changes, bounds, and the ones counted. Above this crate `has`, `put` and `hops` stay shut but
+-- where examples are computed.
 -- Assumes nothing.
 use mathlib.Core.Path.{_≡_, refl, sym, ap, ap₂, subst, _∙_}
 use mathlib.Core.Bool.{true, false}
@@ -160,10 +161,13 @@ ones-count (suc k) l h =
     ap ones (sym (split l k)) ∙ ones-cat k (l / 2 ^ k) (l % 2 ^ k) low
     ∙ ap₂ (λ (a b : ℕ). a + b) (one-bit (l / 2 ^ k) top) (ones-count k (l % 2 ^ k) low ∙ count-ext (has (l % 2 ^ k)) (has l) k (λ i b. low-bit k i l b))
 
+pub hops-ones : (l : ℕ) → hops l ≡ ones l - 1
+unfolding hops
+hops-ones l = refl
+
 -- hops are the listed nodes less one
 pub hops-count : (k l : ℕ) → l < 2 ^ k → hops l ≡ count (has l) k - 1
-unfolding hops
-hops-count k l h = ap (λ (x : ℕ). x - 1) (ones-count k l h)
+hops-count k l h = hops-ones l ∙ ap (λ (x : ℕ). x - 1) (ones-count k l h)
 
 pub ones-own : (i : ℕ) → ones (own i) ≡ 1
 unfolding ones

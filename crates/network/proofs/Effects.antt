@@ -3,6 +3,7 @@
 use mathlib.Core.Path.{_≡_, refl, _∙_}
 use mathlib.Core.Bool.{true, false, cond, _&&_, _||_, or-true, and-false}
 use mathlib.Core.Logic.{_⊎_, inl, inr, _≢_}
+use mathlib.Core.List.{List}
 use Prim.Native.Nat.{ℕ, _<_, _≤_}
 use lib.Dec.{eqb, ltb}
 use borrow.Author.Tests.{lt-ltb, le-ltb, eq-eqb, ne-eqb}
@@ -10,7 +11,7 @@ use Rattle.ancestors.specs.Ancestors.{own}
 use Rattle.ancestors.proofs.Cases.{eq-or-ne, eqb-same}
 use Rattle.network.specs.Faults.{maxGrade}
 use Rattle.network.specs.Network.{Row, none, root, Report, empty, Net, setAt, setPair, withCost, withRow, withHeld, outcome, freshNet}
-use Rattle.network.specs.Round.{Marks, report, hear, choice, renewTo, renew, round}
+use Rattle.network.specs.Round.{Marks, report, hear, choice, renewTo, renew, round, marked, roundNumber, roundOf, everyArc, fullRoundOf}
 use Rattle.network.specs.Change.{changed, changeNumber, changeOf, gradeCost, gradeNumber, gradeOf}
 use Rattle.network.proofs.FaultLaws.{cost-free, grade-free}
 use Rattle.network.proofs.Grades.{grade-small}
@@ -30,6 +31,23 @@ refused-net k next x h = rw (ne-eqb k 0 h)
 pub accepted-net : (k : ℕ) (next x : Net) → k ≡ 0 → outcome k next x .net ≡ next
 unfolding outcome
 accepted-net k next x e = rw (eq-eqb k 0 e)
+
+-- every call answers an outcome
+pub change-outcome : (x : Net) (s r c : ℕ) → changeOf x s r c ≡ outcome (changeNumber x s r c) (changed x s r c) x
+unfolding changeOf
+change-outcome x s r c = refl
+
+pub grade-outcome : (x : Net) (s r g : ℕ) → gradeOf x s r g ≡ outcome (gradeNumber x s r g) (changed x s r (gradeCost g)) x
+unfolding gradeOf
+grade-outcome x s r g = refl
+
+pub round-outcome : (x : Net) (ms : List ℕ) → roundOf x ms ≡ outcome (roundNumber x ms) (round (marked ms) x) x
+unfolding roundOf
+round-outcome x ms = refl
+
+pub full-round-outcome : (x : Net) → fullRoundOf x ≡ outcome 0 (round (everyArc x) x) x
+unfolding fullRoundOf
+full-round-outcome x = refl
 
 -- ---- a value set at a node or a pair
 

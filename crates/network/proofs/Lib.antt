@@ -3,6 +3,7 @@ pub mod Choosing
 pub mod FaultLaws
 pub mod Limits
 pub mod Grades
+pub mod Reports
 pub mod Effects
 pub mod Accepting
 pub mod Marking

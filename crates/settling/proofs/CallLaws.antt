@@ -1,5 +1,4 @@
--- What a call of a list does: refused it leaves the network, accepted it gives the next one. Only in `called-outcome` do `changeOf`, `gradeOf`,
--- `roundOf` and `fullRoundOf` open, each to the outcome that it is.
+-- What a call of a list does: refused it leaves the network, accepted it gives the next one.
 -- Assumes nothing.
 use mathlib.Core.Path.{_≡_, refl, sym, ap, _∙_}
 use mathlib.Core.Bool.{Bool, true, false, _&&_}
@@ -9,9 +8,9 @@ use Prim.Native.Nat.{ℕ}
 use borrow.Author.Tests.{eqb-true, eqb-false, eq-eqb}
 use Rattle.ancestors.proofs.Cases.{bool-cases}
 use Rattle.network.specs.Network.{Net, Outcome, outcome, Within}
-use Rattle.network.specs.Round.{Marks, marked, everyArc, roundNumber, roundOf, fullRoundOf, round as roundWith}
-use Rattle.network.specs.Change.{changed, changeNumber, changeOf, gradeCost, gradeNumber, gradeOf}
-use Rattle.network.proofs.Effects.{outcome-number, refused-net, accepted-net, round-effect, change-effect}
+use Rattle.network.specs.Round.{Marks, marked, everyArc, roundNumber, round as roundWith}
+use Rattle.network.specs.Change.{changed, changeNumber, gradeCost, gradeNumber}
+use Rattle.network.proofs.Effects.{outcome-number, refused-net, accepted-net, change-outcome, grade-outcome, round-outcome, full-round-outcome, round-effect, change-effect}
 use Rattle.network.proofs.Keeping.{change-within, grade-within, round-within, full-round-within}
 use Rattle.settling.specs.Calls.{Call, change, grade, round, fullRound, called, accepted, after, alters, marksThen}
 
@@ -31,11 +30,11 @@ next x fullRound = roundWith (everyArc x) x
 
 -- every call answers an outcome
 called-outcome : (x : Net) (c : Call) → called x c ≡ outcome (number x c) (next x c) x
-unfolding called number next changeOf gradeOf roundOf fullRoundOf
-called-outcome x (change s r c) = refl
-called-outcome x (grade s r g) = refl
-called-outcome x (round ms) = refl
-called-outcome x fullRound = refl
+unfolding called number next
+called-outcome x (change s r c) = change-outcome x s r c
+called-outcome x (grade s r g) = grade-outcome x s r g
+called-outcome x (round ms) = round-outcome x ms
+called-outcome x fullRound = full-round-outcome x
 
 -- and its number is the outcome's
 called-number : (x : Net) (c : Call) → called x c .number ≡ number x c

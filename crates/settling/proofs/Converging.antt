@@ -9,7 +9,7 @@ use Rattle.ancestors.proofs.Cases.{eq-or-ne}
 use Rattle.network.specs.Network.{Row, none, root, via, told}
 use Rattle.network.specs.Round.{report}
 use Rattle.settling.specs.Settled.{Walk, Settled, fixed, unreached, Real, no-label, origin-label, relay-label}
-use Rattle.settling.proofs.Reports.{root-told, via-told}
+use Rattle.network.proofs.Reports.{root-told, via-told}
 use Rattle.settling.proofs.Routes.{route-walk, route-short}
 use Rattle.settling.proofs.SettledBy.{SettledBy, by-route, by-relay, by-settled}
 use Rattle.settling.proofs.Existing.{found}

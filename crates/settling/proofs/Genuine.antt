@@ -10,7 +10,7 @@ use Rattle.network.specs.Network.{told}
 use Rattle.network.specs.Round.{report}
 use Rattle.network.proofs.Choosing.{Came}
 use Rattle.settling.specs.Settled.{Route, start, onward}
-use Rattle.settling.proofs.Reports.{root-told}
+use Rattle.network.proofs.Reports.{root-told}
 use Rattle.settling.proofs.Relays.{relays, relays-own, relays-put, relays-below}
 use Rattle.settling.proofs.Run.{Run, Offered, sent, source, told-by}
 

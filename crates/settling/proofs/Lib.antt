@@ -1,4 +1,3 @@
-pub mod Reports
 pub mod Unique
 pub mod Routes
 pub mod SettledBy

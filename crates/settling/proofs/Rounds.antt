@@ -14,7 +14,7 @@ use Rattle.network.proofs.Effects.{RoundEffect}
 use Rattle.network.proofs.Limits.{within-size, within-arc, within-row, within-report}
 use Rattle.settling.specs.Settled.{Route, Settled, Real}
 use Rattle.settling.specs.Calls.{AllReal, AllSettled}
-use Rattle.settling.proofs.Reports.{told-row}
+use Rattle.network.proofs.Reports.{told-row}
 use Rattle.settling.proofs.Routes.{Ends, route-short, route-cost}
 use Rattle.settling.proofs.Run.{Run}
 use Rattle.settling.proofs.Converging.{all-real, all-settled}

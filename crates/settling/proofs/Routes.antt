@@ -9,7 +9,7 @@ use lib.Count.{ones}
 use Rattle.ancestors.specs.Ancestors.{has, put, own, hops, count}
 use Rattle.ancestors.proofs.Cases.{eq-or-ne, bool-cases, never}
 use Rattle.ancestors.proofs.Counting.{count-le, count-more}
-use Rattle.ancestors.proofs.Laws.{has-put-same, has-put-other, has-kept, has-own, ones-put, ones-own}
+use Rattle.ancestors.proofs.Laws.{has-put-same, has-put-other, has-kept, has-own, hops-ones, ones-put, ones-own}
 use Rattle.settling.specs.Settled.{Walk, here, along, Route, start, onward, Least}
 
 -- the origin and the ends of every arc are nodes, below n
@@ -31,8 +31,7 @@ module _ (cost : ℕ → ℕ → ℕ) (origin : ℕ) where
 
   -- so its hops are its arcs
   pub route-hops : {y k d l : ℕ} → Route cost origin y k d l → hops l ≡ k
-  unfolding hops
-  route-hops r = omega (arith, route-ones r)
+  route-hops {l = l} r = omega (arith, hops-ones l, route-ones r)
 
   -- a node of a route's list has a walk that costs no more than the route
   route-listed : {s k d l : ℕ} → Route cost origin s k d l → (y : ℕ) → has l y ≡ true → (e : ℕ) × (e ≤ d) × Walk cost origin y e

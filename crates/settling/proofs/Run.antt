@@ -11,7 +11,7 @@ use Rattle.network.specs.Network.{Row, root, via, Report, told}
 use Rattle.network.specs.Round.{report, choice}
 use Rattle.network.proofs.Choosing.{Made, Came, came, choice-no-root}
 use Rattle.settling.specs.Settled.{Route}
-use Rattle.settling.proofs.Reports.{told-row}
+use Rattle.network.proofs.Reports.{told-row}
 use Rattle.settling.proofs.Routes.{Ends}
 
 -- the facts of a run that its theorems use

@@ -9,7 +9,7 @@ use Rattle.ancestors.specs.Ancestors.{has, put, own}
 use Rattle.network.specs.Network.{Row, root, via, told}
 use Rattle.network.specs.Round.{report}
 use Rattle.settling.specs.Settled.{here, Route, start, onward, Least, Predecessor, Ancestors, at-origin, behind, Settled, fixed, reached}
-use Rattle.settling.proofs.Reports.{root-told, via-told}
+use Rattle.network.proofs.Reports.{root-told, via-told}
 use Rattle.settling.proofs.Unique.{least-once}
 use Rattle.settling.proofs.Routes.{route-apart}
 

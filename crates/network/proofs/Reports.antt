@@ -1,11 +1,11 @@
--- What a row reports. Only here does `report` open.
+-- What a row reports, and the row that a report is of: above this crate `report` stays shut but where examples are computed.
 -- Assumes nothing.
 use mathlib.Core.Path.{_≡_, ap}
 use mathlib.Core.Logic.{_⊎_, inl, inr}
 use Prim.Native.Nat.{ℕ}
 use native.Mathlib.Omega.{arith}
 use Rattle.network.specs.Network.{Row, none, root, via, told}
 use Rattle.network.specs.Round.{report}
 
 pub root-told : {w : Row} {l : ℕ} → w ≡ root l → report w ≡ told 0 l
 unfolding report
