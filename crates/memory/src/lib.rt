@@ -13,8 +13,27 @@ ghost use Rattle.memory.specs.Layout.{words, view};
 ghost use Rattle.memory.specs.Inner.{Node, Blank};
 ghost use Rattle.memory.specs.Answers.{Leaves, Starts, readRow, rowMeans, readCost, costMeans, readHeld, heldMeans};
 
-// The words of a network; specs/Layout.antt says where what lies.
-pub type Network = [u32; 3200];
+// Where what lies in the words of a network, as specs/Layout.antt says: for this crate and `routing` alone.
+pub const WORDS: usize = 3200;
+
+pub const NODES: usize = 0;
+
+pub const ORIGIN: usize = 1;
+// By node.
+pub const ROW_LABELS: usize = 32;
+
+pub const ROW_PREDECESSORS: usize = 64;
+
+pub const ROW_LISTS: usize = 96;
+// By receiver times 32 plus sender.
+pub const COSTS: usize = 128;
+
+pub const HELD_LABELS: usize = 1152;
+
+pub const HELD_LISTS: usize = 2176;
+
+// The words of a network.
+pub type Network = [u32; WORDS];
 
 // What `fresh` answers: a number, 0 or 3, and a network.
 pub struct NewNetwork {
@@ -58,7 +77,7 @@ pub enum HeldRead {
 pub fn nodes(net: &Network) -> u32
     ensures { λ r. ⌜ r ≡ view (now (net .entry)) .nodes ⌝ }
 {
-    let n = net[0];
+    let n = net[NODES];
     if 32 < n {
         return 32;
     }
@@ -69,7 +88,7 @@ pub fn nodes(net: &Network) -> u32
 pub fn origin(net: &Network) -> u32
     ensures { λ r. ⌜ r ≡ view (now (net .entry)) .origin ⌝ }
 {
-    net[1]
+    net[ORIGIN]
 }
 
 // ---- fresh
@@ -77,7 +96,7 @@ pub fn origin(net: &Network) -> u32
 fn zeros() -> Network
     ensures { λ r. ⌜ Blank r ⌝ }
 {
-    [0u32; 3200]
+    [0u32; WORDS]
 }
 
 fn fresh_words(n: u32, origin: u32) -> Network
@@ -86,8 +105,8 @@ fn fresh_words(n: u32, origin: u32) -> Network
     ensures { λ r. ⌜ view r ≡ freshNet n origin ⌝ }
 {
     let mut net = zeros();
-    net[0] = n;
-    net[1] = origin;
+    net[NODES] = n;
+    net[ORIGIN] = origin;
     net
 }
 
@@ -145,8 +164,8 @@ fn set_arc(net: &mut [u32], sender: u32, receiver: u32, cost: u32)
     ensures { λ _. ⌜ view (now (net .exit)) ≡ changed (view (now (net .entry))) sender receiver cost ⌝ }
 {
     let at = receiver as usize * 32 + sender as usize;
-    net[2176 + at] = kept_list(cost, net[128 + at], net[2176 + at]);
-    net[128 + at] = cost;
+    net[HELD_LISTS + at] = kept_list(cost, net[COSTS + at], net[HELD_LISTS + at]);
+    net[COSTS + at] = cost;
 }
 
 // Sets the cost of a pair; cost 0 removes the arc. Answers 0, or 3 for a bad pair or a cost above 65,535.
@@ -186,7 +205,7 @@ pub fn row(net: &Network, node: u32) -> RowRead
     if nodes(net) <= node {
         return RowRead::Refused;
     }
-    if node == net[1] {
+    if node == net[ORIGIN] {
         let own = ancestors::joined(0, node);
         return RowRead::Origin {
             list: own,
@@ -194,13 +213,13 @@ pub fn row(net: &Network, node: u32) -> RowRead
         };
     }
     let y = node as usize;
-    let list = net[96 + y];
+    let list = net[ROW_LISTS + y];
     if list == 0 {
         return RowRead::NoRoute;
     }
     RowRead::Route {
-        label: net[32 + y],
-        predecessor: net[64 + y],
+        label: net[ROW_LABELS + y],
+        predecessor: net[ROW_PREDECESSORS + y],
         list: list,
         hops: ancestors::count_hops(list),
     }
@@ -212,7 +231,7 @@ fn cost_word(net: &[u32], sender: u32, receiver: u32) -> u32
     requires { ⌜ Node (now net) receiver ⌝ }
     ensures { λ r. ⌜ r ≡ view (now (net .entry)) .cost sender receiver ⌝ }
 {
-    net[128 + (receiver as usize * 32 + sender as usize)]
+    net[COSTS + (receiver as usize * 32 + sender as usize)]
 }
 
 // The cost of the arc from sender to receiver.
@@ -236,12 +255,12 @@ pub fn held(net: &Network, sender: u32, receiver: u32) -> HeldRead
         return HeldRead::Refused;
     }
     let at = receiver as usize * 32 + sender as usize;
-    let list = net[2176 + at];
+    let list = net[HELD_LISTS + at];
     if list == 0 {
         return HeldRead::Empty;
     }
     HeldRead::Report {
-        label: net[1152 + at],
+        label: net[HELD_LABELS + at],
         list: list,
     }
 }
@@ -256,7 +275,7 @@ pub fn row_number(net: &Network, node: u32, label: u32, predecessor: u32, list: 
     if n <= node {
         return 3;
     }
-    if network::row_fault(n, net[1], node, label, predecessor, list) {
+    if network::row_fault(n, net[ORIGIN], node, label, predecessor, list) {
         return 5;
     }
     0
@@ -272,9 +291,9 @@ pub fn place_row(net: &mut Network, node: u32, label: u32, predecessor: u32, lis
     }
     let y = node as usize;
     let all: &mut [u32] = net;
-    all[32 + y] = label;
-    all[64 + y] = predecessor;
-    all[96 + y] = list;
+    all[ROW_LABELS + y] = label;
+    all[ROW_PREDECESSORS + y] = predecessor;
+    all[ROW_LISTS + y] = list;
     0
 }
 
@@ -302,7 +321,7 @@ pub fn place_report(net: &mut Network, sender: u32, receiver: u32, label: u32, l
     }
     let at = receiver as usize * 32 + sender as usize;
     let all: &mut [u32] = net;
-    all[1152 + at] = label;
-    all[2176 + at] = list;
+    all[HELD_LABELS + at] = label;
+    all[HELD_LISTS + at] = list;
     0
 }

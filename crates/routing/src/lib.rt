@@ -2,7 +2,14 @@
 //
 // Contracts go through `memory`'s `view` and hold for any words. A refused round leaves every word as it stood. No public function has a
 // `requires`; the private ones require the number of words and what their callers have tested.
+use memory::COSTS;
+use memory::HELD_LABELS;
+use memory::HELD_LISTS;
 use memory::Network;
+use memory::ORIGIN;
+use memory::ROW_LABELS;
+use memory::ROW_LISTS;
+use memory::ROW_PREDECESSORS;
 use network::Choice;
 ghost use mathlib.Core.Path.{_≡_};
 ghost use mathlib.Core.Logic.{_≢_};
@@ -26,12 +33,12 @@ fn prime(net: &mut [u32], n: usize)
     requires { ⌜ Nodes (now net) n ⌝ }
     ensures { λ _. ⌜ Hears (now (net .exit)) (view (now (net .entry))) ⌝ }
 {
-    let origin = net[1];
+    let origin = net[ORIGIN];
     let at = origin as usize;
     if at < n {
-        net[32 + at] = 0;
-        net[64 + at] = 0;
-        net[96 + at] = ancestors::joined(0, origin);
+        net[ROW_LABELS + at] = 0;
+        net[ROW_PREDECESSORS + at] = 0;
+        net[ROW_LISTS + at] = ancestors::joined(0, origin);
     }
 }
 
@@ -50,8 +57,8 @@ fn hear_arc(net: &mut [u32], sender: usize, receiver: usize, told: bool)
     ensures { λ _. ⌜ Hears (now (net .exit)) (hear (oneMark sender receiver told) (view (now (net .entry)))) ⌝ }
 {
     let at = receiver * 32 + sender;
-    net[1152 + at] = either(told, net[32 + sender], net[1152 + at]);
-    net[2176 + at] = either(told, net[96 + sender], net[2176 + at]);
+    net[HELD_LABELS + at] = either(told, net[ROW_LABELS + sender], net[HELD_LABELS + at]);
+    net[HELD_LISTS + at] = either(told, net[ROW_LISTS + sender], net[HELD_LISTS + at]);
 }
 
 fn hear_row(net: &mut [u32], n: usize, receiver: usize, word: u32)
@@ -84,7 +91,7 @@ fn arc_at(net: &[u32], sender: usize, receiver: usize) -> bool
     requires { ⌜ Node (now net) receiver ⌝ }
     ensures { λ b. ⌜ b ≡ ltb 0 (view (now (net .entry)) .cost sender receiver) ⌝ }
 {
-    0 < net[128 + (receiver * 32 + sender)]
+    0 < net[COSTS + (receiver * 32 + sender)]
 }
 
 fn hear_arc_row(net: &mut [u32], n: usize, receiver: usize)
@@ -118,9 +125,9 @@ fn choose_row(net: &[u32], n: usize, receiver: usize) -> Choice
     requires { ⌜ Node (now net) receiver ⌝ }
     ensures { λ r. ⌜ choiceMeans r ≡ chosen (choice n (λ s. view (now (net .entry)) .cost s receiver) (λ s. view (now (net .entry)) .held s receiver) receiver) ⌝ }
 {
-    let c = 128 + receiver * 32;
-    let d = 1152 + receiver * 32;
-    let l = 2176 + receiver * 32;
+    let c = COSTS + receiver * 32;
+    let d = HELD_LABELS + receiver * 32;
+    let l = HELD_LISTS + receiver * 32;
     network::choose(
         &net[c..c + n],
         &net[d..d + n],
@@ -135,9 +142,9 @@ fn store_row(net: &mut [u32], node: usize, label: u32, predecessor: u32, list: u
     requires { ⌜ node ≢ view (now net) .origin ⌝ }
     ensures { λ _. ⌜ view (now (net .exit)) ≡ withRow (view (now (net .entry))) node (rowOf label predecessor list) ⌝ }
 {
-    net[32 + node] = label;
-    net[64 + node] = predecessor;
-    net[96 + node] = list;
+    net[ROW_LABELS + node] = label;
+    net[ROW_PREDECESSORS + node] = predecessor;
+    net[ROW_LISTS + node] = list;
 }
 
 fn renew_row(net: &mut [u32], n: usize, receiver: usize)
@@ -164,7 +171,7 @@ fn renew_rows(net: &mut [u32], n: usize)
     requires { ⌜ Nodes (now net) n ⌝ }
     ensures { λ _. ⌜ view (now (net .exit)) ≡ renew (view (now (net .entry))) ⌝ }
 {
-    let origin = net[1] as usize;
+    let origin = net[ORIGIN] as usize;
     for r in 0..n {
         if r != origin {
             renew_row(net, n, r);
@@ -220,7 +227,7 @@ fn idle_row(net: &[u32], n: usize, receiver: usize, word: u32) -> bool
     requires { ⌜ Node (now net) receiver ⌝ }
     ensures { λ b. ⌜ b ≡ idleRow (view (now (net .entry))) receiver word n ⌝ }
 {
-    let base = 128 + receiver * 32;
+    let base = COSTS + receiver * 32;
     let mut found = false;
     for s in 0..n {
         found = or(
