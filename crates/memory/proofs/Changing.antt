@@ -12,7 +12,7 @@ use Rattle.network.specs.Faults.{pairFault, costFault, gradeFault}
 use Rattle.network.specs.Network.{empty, withCost, withHeld}
 use Rattle.network.specs.Change.{changed, changeNumber, changeOf, gradeCost, gradeNumber, gradeOf}
 use Rattle.network.specs.Words.{reportOf}
-use Rattle.memory.specs.Layout.{words, look, view}
+use Rattle.memory.specs.Layout.{words, look, view, arcCosts, heldLabels, heldLists}
 use Rattle.memory.specs.Answers.{Leaves}
 use Rattle.memory.proofs.Store.{read-cost, read-held, store-arc}
 use Rattle.memory.proofs.Leaving.{leaves-refused, leaves-accepted}
@@ -24,18 +24,18 @@ emptied false d l = refl
 
 -- the list kept and the cost stored are the change
 pub change-words : (xs : List ℕ) → length xs ≡ words → (s r c l : ℕ) → s < view xs .nodes → r < view xs .nodes
-    → l ≡ cond (eqb c 0 || eqb (look xs (128 + (r * 32 + s))) 0) 0 (look xs (2176 + (r * 32 + s)))
-    → view (set (set xs (2176 + (r * 32 + s)) l) (128 + (r * 32 + s)) c) ≡ changed (view xs) s r c
+    → l ≡ cond (eqb c 0 || eqb (look xs (arcCosts + (r * 32 + s))) 0) 0 (look xs (heldLists + (r * 32 + s)))
+    → view (set (set xs (heldLists + (r * 32 + s)) l) (arcCosts + (r * 32 + s)) c) ≡ changed (view xs) s r c
 unfolding changed
 change-words xs size s r c l hs hr e = store-arc xs size s r hs hr c l ∙ ap (withHeld (withCost (view xs) s r c) s r) held
   where
     at : ℕ
     at = r * 32 + s
 
-    held : reportOf (look xs (1152 + at)) l ≡ cond (eqb c 0 || eqb (view xs .cost s r) 0) empty (view xs .held s r)
+    held : reportOf (look xs (heldLabels + at)) l ≡ cond (eqb c 0 || eqb (view xs .cost s r) 0) empty (view xs .held s r)
     held =
-        ap (reportOf (look xs (1152 + at))) e
-        ∙ emptied (eqb c 0 || eqb (look xs (128 + at)) 0) (look xs (1152 + at)) (look xs (2176 + at))
+        ap (reportOf (look xs (heldLabels + at))) e
+        ∙ emptied (eqb c 0 || eqb (look xs (arcCosts + at)) 0) (look xs (heldLabels + at)) (look xs (heldLists + at))
         ∙ (λ j. cond (eqb c 0 || eqb (read-cost xs s r hs hr j) 0) empty (read-held xs s r hs hr j))
 
 module _ (xs : List ℕ) (n s r : ℕ) (is : n ≡ view xs .nodes) where

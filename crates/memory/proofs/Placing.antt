@@ -15,7 +15,7 @@ use Rattle.network.specs.Network.{via, told, withRow, withHeld, placeRowNumber,
 use Rattle.network.specs.Words.{reportOf}
 use Rattle.network.proofs.Accepting.{place-row-accepted, place-report-accepted}
 use Rattle.network.proofs.FaultLaws.{node-says, pair-says, row-says, report-says}
-use Rattle.memory.specs.Layout.{words, view, rowOf}
+use Rattle.memory.specs.Layout.{words, view, rowOf, heldLabels, heldLists}
 use Rattle.memory.specs.Inner.{Node}
 use Rattle.memory.specs.Answers.{Leaves}
 use Rattle.memory.proofs.Store.{few, store-report}
@@ -61,7 +61,7 @@ module _ (xs : List ℕ) (s r d l : ℕ) where
     report-place = let p = nodes in (omega (arith, few xs), omega (arith, few xs))
 
     pub placed-report : length xs ≡ words
-        → Leaves (placeReportOf (view xs) s r d l) 0 xs (set (set xs (1152 + (r * 32 + s)) d) (2176 + (r * 32 + s)) l)
+        → Leaves (placeReportOf (view xs) s r d l) 0 xs (set (set xs (heldLabels + (r * 32 + s)) d) (heldLists + (r * 32 + s)) l)
     unfolding placeReportOf reportOf
     placed-report size =
         let f = report-says (view xs .nodes) (view xs .cost s r) s d l (place-report-accepted (view xs) s r d l e .1) in

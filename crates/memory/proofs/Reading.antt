@@ -13,7 +13,7 @@ use Rattle.network.specs.Faults.{nodeFault, pairFault}
 use Rattle.network.specs.Network.{Row, Net}
 use Rattle.network.specs.Words.{reportOf}
 use Rattle.network.proofs.FaultLaws.{node-free, pair-says}
-use Rattle.memory.specs.Layout.{look, view, rowOf}
+use Rattle.memory.specs.Layout.{look, view, rowOf, heldLabels, heldLists, rowLabels, rowLists, rowPredecessors}
 use Rattle.memory.specs.Answers.{RowAnswer, rowHops, readRow, rowMeans, readHeld, heldMeans}
 use Rattle.memory.specs.declared.RowRead.the-variants as R
 use Rattle.memory.specs.declared.HeldRead.the-variants as H
@@ -42,27 +42,27 @@ module _ (xs : List ℕ) (y : ℕ) (node : y < view xs .nodes) where
       rw (q, p, lt-ltb y 32 small) (sym (read-node (view xs) y node ∙ ap answer (read-origin xs y e)))
 
   module _ (relay : y ≢ view xs .origin) where
-    pub row-none : look xs (96 + y) ≡ 0 → rowMeans R.NoRoute ≡ readRow (view xs) y
+    pub row-none : look xs (rowLists + y) ≡ 0 → rowMeans R.NoRoute ≡ readRow (view xs) y
     unfolding rowMeans rowHops rowOf
-    row-none e = sym (read-node (view xs) y node ∙ ap answer (sym (read-relay xs y node relay) ∙ rw (eq-eqb (look xs (96 + y)) 0 e)))
+    row-none e = sym (read-node (view xs) y node ∙ ap answer (sym (read-relay xs y node relay) ∙ rw (eq-eqb (look xs (rowLists + y)) 0 e)))
 
-    pub row-route : (k : ℕ) → look xs (96 + y) ≢ 0 → k ≡ hops (look xs (96 + y))
-        → rowMeans (R.Route (look xs (32 + y)) (look xs (64 + y)) (look xs (96 + y)) k) ≡ readRow (view xs) y
+    pub row-route : (k : ℕ) → look xs (rowLists + y) ≢ 0 → k ≡ hops (look xs (rowLists + y))
+        → rowMeans (R.Route (look xs (rowLabels + y)) (look xs (rowPredecessors + y)) (look xs (rowLists + y)) k) ≡ readRow (view xs) y
     unfolding rowMeans rowHops rowOf
     row-route k e q =
-        rw q (sym (read-node (view xs) y node ∙ ap answer (sym (read-relay xs y node relay) ∙ rw (ne-eqb (look xs (96 + y)) 0 e))))
+        rw q (sym (read-node (view xs) y node ∙ ap answer (sym (read-relay xs y node relay) ∙ rw (ne-eqb (look xs (rowLists + y)) 0 e))))
 
 -- ---- held reports
 
 module _ (xs : List ℕ) (s r : ℕ) (e : pairFault (view xs .nodes) s r ≡ false) where
-  held-is : reportOf (look xs (1152 + (r * 32 + s))) (look xs (2176 + (r * 32 + s))) ≡ view xs .held s r
+  held-is : reportOf (look xs (heldLabels + (r * 32 + s))) (look xs (heldLists + (r * 32 + s))) ≡ view xs .held s r
   held-is = let p = pair-says (view xs .nodes) s r e in read-held xs s r (p .0) (p .1)
 
-  pub held-none : look xs (2176 + (r * 32 + s)) ≡ 0 → heldMeans H.Empty ≡ readHeld (view xs) s r
+  pub held-none : look xs (heldLists + (r * 32 + s)) ≡ 0 → heldMeans H.Empty ≡ readHeld (view xs) s r
   unfolding heldMeans readHeld reportOf
-  held-none z = rw (e, ← held-is, eq-eqb (look xs (2176 + (r * 32 + s))) 0 z)
+  held-none z = rw (e, ← held-is, eq-eqb (look xs (heldLists + (r * 32 + s))) 0 z)
 
-  pub held-told : look xs (2176 + (r * 32 + s)) ≢ 0
-      → heldMeans (H.Report (look xs (1152 + (r * 32 + s))) (look xs (2176 + (r * 32 + s)))) ≡ readHeld (view xs) s r
+  pub held-told : look xs (heldLists + (r * 32 + s)) ≢ 0
+      → heldMeans (H.Report (look xs (heldLabels + (r * 32 + s))) (look xs (heldLists + (r * 32 + s)))) ≡ readHeld (view xs) s r
   unfolding heldMeans readHeld reportOf
-  held-told z = rw (e, ← held-is, ne-eqb (look xs (2176 + (r * 32 + s))) 0 z)
+  held-told z = rw (e, ← held-is, ne-eqb (look xs (heldLists + (r * 32 + s))) 0 z)

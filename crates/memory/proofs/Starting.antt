@@ -14,7 +14,7 @@ use Rattle.ancestors.specs.Ancestors.{own}
 use Rattle.network.specs.Faults.{sizeFault}
 use Rattle.network.specs.Network.{root, freshNet, freshNumber, freshOf}
 use Rattle.network.specs.Words.{reportOf}
-use Rattle.memory.specs.Layout.{rowOf, rowAt, netOf, look, view}
+use Rattle.memory.specs.Layout.{rowOf, rowAt, netOf, look, view, arcCosts, heldLists, rowLists}
 use Rattle.memory.specs.Inner.{Blank}
 use Rattle.memory.specs.Answers.{Starts}
 use Rattle.memory.proofs.Store.{same-net, word-zero, cell-zero}
@@ -47,9 +47,9 @@ module _ (xs : List ℕ) (blank : Blank xs) (n o : ℕ) (few : n ≤ 32) where
   fresh-view =
       (λ j. netOf (min (first j) 32) (second j) (look ys))
       ∙ same-net _ _ (omega arith) refl
-      (λ s r. cell-zero (min n 32) (look ys) 128 s r (λ k h. rest k (omega arith)))
-      (λ y. ap (λ w. cond (eqb y o) (root (own o)) w) (rw (word-zero (min n 32) (look ys) 96 y (λ k h. rest k (omega arith)))))
-      (λ s r. rw (cell-zero (min n 32) (look ys) 2176 s r (λ k h. rest k (omega arith))))
+      (λ s r. cell-zero (min n 32) (look ys) arcCosts s r (λ k h. rest k (omega arith)))
+      (λ y. ap (λ w. cond (eqb y o) (root (own o)) w) (rw (word-zero (min n 32) (look ys) rowLists y (λ k h. rest k (omega arith)))))
+      (λ s r. rw (cell-zero (min n 32) (look ys) heldLists s r (λ k h. rest k (omega arith))))
 
 -- ---- the fresh call
 module _ (n o : ℕ) (xs : List ℕ) where

@@ -17,7 +17,7 @@ use Rattle.network.specs.Faults.{pairFault}
 use Rattle.network.specs.Words.{reportOf}
 use Rattle.network.proofs.FaultLaws.{pair-says}
 use Rattle.memory.specs.Inner.{Node}
-use Rattle.memory.specs.Layout.{words, word, cell, rowOf, rowAt, netOf, look, view}
+use Rattle.memory.specs.Layout.{words, word, cell, rowOf, rowAt, netOf, look, view, arcCosts, heldLabels, heldLists, rowLabels, rowLists, rowPredecessors}
 
 -- two networks with the same parts are one
 pub same-net : (x z : Net) → x .nodes ≡ z .nodes → x .origin ≡ z .origin → ((s r : ℕ) → x .cost s r ≡ z .cost s r)
@@ -128,11 +128,11 @@ module _ (n : ℕ) (f : ℕ → ℕ) (b i v : ℕ) (few : n ≤ 32) where
       off s r h k (inr a) = λ e. omega arith
 
 -- a store past the rows
-row-away : (n : ℕ) (f : ℕ → ℕ) (o i v : ℕ) → n ≤ 32 → 128 ≤ i → (y : ℕ) → rowAt n (upd f i v) o y ≡ rowAt n f o y
+row-away : (n : ℕ) (f : ℕ → ℕ) (o i v : ℕ) → n ≤ 32 → arcCosts ≤ i → (y : ℕ) → rowAt n (upd f i v) o y ≡ rowAt n f o y
 unfolding rowAt
 row-away n f o i v few h y =
     λ j. cond (eqb y o) (root (own o))
-    (rowOf (word-away n f 32 i v few (inr (omega arith)) y j) (word-away n f 64 i v few (inr (omega arith)) y j) (word-away n f 96 i v few (inr (omega arith)) y j))
+    (rowOf (word-away n f rowLabels i v few (inr (omega arith)) y j) (word-away n f rowPredecessors i v few (inr (omega arith)) y j) (word-away n f rowLists i v few (inr (omega arith)) y j))
 
 -- a store in a plane
 module _ (n : ℕ) (f : ℕ → ℕ) (b v : ℕ) (few : n ≤ 32) where
@@ -187,9 +187,9 @@ by-place f g y v here else a = go (eq-or-ne a y)
 
 -- ---- what stands at a node and at a pair
 module _ (xs : List ℕ) where
-  pub read-cost : (s r : ℕ) → s < view xs .nodes → r < view xs .nodes → look xs (128 + (r * 32 + s)) ≡ view xs .cost s r
+  pub read-cost : (s r : ℕ) → s < view xs .nodes → r < view xs .nodes → look xs (arcCosts + (r * 32 + s)) ≡ view xs .cost s r
   unfolding view netOf
-  read-cost s r h k = sym (cell-in (min (look xs 0) 32) (look xs) 128 s r h k)
+  read-cost s r h k = sym (cell-in (min (look xs 0) 32) (look xs) arcCosts s r h k)
 
   pub read-first : look xs 1 ≡ view xs .origin
   unfolding view netOf
@@ -198,21 +198,21 @@ module _ (xs : List ℕ) where
   -- what lies at nodes not below n plays no part
   pub cost-beyond : (s r : ℕ) → (view xs .nodes ≤ s) ⊎ (view xs .nodes ≤ r) → view xs .cost s r ≡ 0
   unfolding view netOf
-  cost-beyond s r h = cell-out (min (look xs 0) 32) (look xs) 128 s r h
+  cost-beyond s r h = cell-out (min (look xs 0) 32) (look xs) arcCosts s r h
 
   pub read-held : (s r : ℕ) → s < view xs .nodes → r < view xs .nodes
-      → reportOf (look xs (1152 + (r * 32 + s))) (look xs (2176 + (r * 32 + s))) ≡ view xs .held s r
+      → reportOf (look xs (heldLabels + (r * 32 + s))) (look xs (heldLists + (r * 32 + s))) ≡ view xs .held s r
   unfolding view netOf
   read-held s r h k =
       let n = min (look xs 0) 32 in
-      λ j. reportOf (sym (cell-in n (look xs) 1152 s r h k) j) (sym (cell-in n (look xs) 2176 s r h k) j)
+      λ j. reportOf (sym (cell-in n (look xs) heldLabels s r h k) j) (sym (cell-in n (look xs) heldLists s r h k) j)
 
-  pub read-relay : (y : ℕ) → y < view xs .nodes → y ≢ view xs .origin → rowOf (look xs (32 + y)) (look xs (64 + y)) (look xs (96 + y)) ≡ view xs .row y
+  pub read-relay : (y : ℕ) → y < view xs .nodes → y ≢ view xs .origin → rowOf (look xs (rowLabels + y)) (look xs (rowPredecessors + y)) (look xs (rowLists + y)) ≡ view xs .row y
   unfolding view netOf rowAt
   read-relay y h o =
       let n = min (look xs 0) 32 in
       rw (ne-eqb y (look xs 1) o)
-      (λ j. rowOf (sym (word-in n (look xs) 32 y h) j) (sym (word-in n (look xs) 64 y h) j) (sym (word-in n (look xs) 96 y h) j))
+      (λ j. rowOf (sym (word-in n (look xs) rowLabels y h) j) (sym (word-in n (look xs) rowPredecessors y h) j) (sym (word-in n (look xs) rowLists y h) j))
 
   pub read-origin : (y : ℕ) → y ≡ view xs .origin → view xs .row y ≡ root (own y)
   unfolding view netOf rowAt
@@ -233,126 +233,126 @@ module _ (xs : List ℕ) (size : length xs ≡ words) where
     abbrev at : ℕ
     at = r * 32 + s
 
-    inside : (b : ℕ) → b ≤ 2176 → b + at < words
+    inside : (b : ℕ) → b ≤ heldLists → b + at < words
     inside b h = omega (arith, few xs)
 
     -- an arc's cost, and the list of its report
-    pub store-arc : (c l : ℕ) → view (set (set xs (2176 + at) l) (128 + at) c) ≡ withHeld (withCost (view xs) s r c) s r (reportOf (look xs (1152 + at)) l)
+    pub store-arc : (c l : ℕ) → view (set (set xs (heldLists + at) l) (arcCosts + at) c) ≡ withHeld (withCost (view xs) s r c) s r (reportOf (look xs (heldLabels + at)) l)
     unfolding withHeld withCost view netOf
     store-arc c l =
-        gives-view (gives-set (128 + at) c (gives-set (2176 + at) l (gives-start xs size) (omega arith) (inside 2176 (omega arith))) (omega arith) (inside 128 (omega arith)))
+        gives-view (gives-set (arcCosts + at) c (gives-set (heldLists + at) l (gives-start xs size) (omega arith) (inside heldLists (omega arith))) (omega arith) (inside arcCosts (omega arith)))
         ∙ same-net _ _ refl refl
-        (by-pair (cell n f 128) (cell n h 128) s r c (cell-here n g 128 c (few xs) s r hs hr)
-        (λ a b ne. cell-else n g 128 c (few xs) s r a b hs hr ne ∙ cell-away n f 128 (2176 + at) l (few xs) (inr (omega arith)) a b))
-        (λ y. row-away n g o (128 + at) c (few xs) (omega arith) y ∙ row-away n f o (2176 + at) l (few xs) (omega arith) y)
-        (by-pair held (λ a b. reportOf (cell n h 1152 a b) (cell n h 2176 a b)) s r (reportOf (look xs (1152 + at)) l)
-        (λ j. reportOf ((label s r ∙ cell-in n f 1152 s r hs hr) j) ((list s r ∙ cell-here n f 2176 l (few xs) s r hs hr) j))
-        (λ a b ne. λ j. reportOf (label a b j) ((list a b ∙ cell-else n f 2176 l (few xs) s r a b hs hr ne) j)))
+        (by-pair (cell n f arcCosts) (cell n h arcCosts) s r c (cell-here n g arcCosts c (few xs) s r hs hr)
+        (λ a b ne. cell-else n g arcCosts c (few xs) s r a b hs hr ne ∙ cell-away n f arcCosts (heldLists + at) l (few xs) (inr (omega arith)) a b))
+        (λ y. row-away n g o (arcCosts + at) c (few xs) (omega arith) y ∙ row-away n f o (heldLists + at) l (few xs) (omega arith) y)
+        (by-pair held (λ a b. reportOf (cell n h heldLabels a b) (cell n h heldLists a b)) s r (reportOf (look xs (heldLabels + at)) l)
+        (λ j. reportOf ((label s r ∙ cell-in n f heldLabels s r hs hr) j) ((list s r ∙ cell-here n f heldLists l (few xs) s r hs hr) j))
+        (λ a b ne. λ j. reportOf (label a b j) ((list a b ∙ cell-else n f heldLists l (few xs) s r a b hs hr ne) j)))
       where
         g : ℕ → ℕ
-        g = upd f (2176 + at) l
+        g = upd f (heldLists + at) l
 
         h : ℕ → ℕ
-        h = upd g (128 + at) c
+        h = upd g (arcCosts + at) c
 
         held : ℕ → ℕ → Report
-        held a b = reportOf (cell n f 1152 a b) (cell n f 2176 a b)
+        held a b = reportOf (cell n f heldLabels a b) (cell n f heldLists a b)
 
-        label : (a b : ℕ) → cell n h 1152 a b ≡ cell n f 1152 a b
-        label a b = cell-away n g 1152 (128 + at) c (few xs) (inl (omega (arith, few xs))) a b ∙ cell-away n f 1152 (2176 + at) l (few xs) (inr (omega arith)) a b
+        label : (a b : ℕ) → cell n h heldLabels a b ≡ cell n f heldLabels a b
+        label a b = cell-away n g heldLabels (arcCosts + at) c (few xs) (inl (omega (arith, few xs))) a b ∙ cell-away n f heldLabels (heldLists + at) l (few xs) (inr (omega arith)) a b
 
-        list : (a b : ℕ) → cell n h 2176 a b ≡ cell n g 2176 a b
-        list a b = cell-away n g 2176 (128 + at) c (few xs) (inl (omega (arith, few xs))) a b
+        list : (a b : ℕ) → cell n h heldLists a b ≡ cell n g heldLists a b
+        list a b = cell-away n g heldLists (arcCosts + at) c (few xs) (inl (omega (arith, few xs))) a b
 
     -- the two words of a report
-    pub store-report : (d l : ℕ) → view (set (set xs (1152 + at) d) (2176 + at) l) ≡ withHeld (view xs) s r (reportOf d l)
+    pub store-report : (d l : ℕ) → view (set (set xs (heldLabels + at) d) (heldLists + at) l) ≡ withHeld (view xs) s r (reportOf d l)
     unfolding withHeld view netOf
     store-report d l =
-        gives-view (gives-set (2176 + at) l (gives-set (1152 + at) d (gives-start xs size) (omega arith) (inside 1152 (omega arith))) (omega arith) (inside 2176 (omega arith)))
+        gives-view (gives-set (heldLists + at) l (gives-set (heldLabels + at) d (gives-start xs size) (omega arith) (inside heldLabels (omega arith))) (omega arith) (inside heldLists (omega arith)))
         ∙ same-net _ _ refl refl
-        (λ a b. cell-away n g 128 (2176 + at) l (few xs) (inr (omega arith)) a b ∙ cell-away n f 128 (1152 + at) d (few xs) (inr (omega arith)) a b)
-        (λ y. row-away n g o (2176 + at) l (few xs) (omega arith) y ∙ row-away n f o (1152 + at) d (few xs) (omega arith) y)
-        (by-pair held (λ a b. reportOf (cell n h 1152 a b) (cell n h 2176 a b)) s r (reportOf d l)
-        (λ j. reportOf ((label s r ∙ cell-here n f 1152 d (few xs) s r hs hr) j) (cell-here n g 2176 l (few xs) s r hs hr j))
-        (λ a b ne. λ j. reportOf ((label a b ∙ cell-else n f 1152 d (few xs) s r a b hs hr ne) j) ((cell-else n g 2176 l (few xs) s r a b hs hr ne ∙ list a b) j)))
+        (λ a b. cell-away n g arcCosts (heldLists + at) l (few xs) (inr (omega arith)) a b ∙ cell-away n f arcCosts (heldLabels + at) d (few xs) (inr (omega arith)) a b)
+        (λ y. row-away n g o (heldLists + at) l (few xs) (omega arith) y ∙ row-away n f o (heldLabels + at) d (few xs) (omega arith) y)
+        (by-pair held (λ a b. reportOf (cell n h heldLabels a b) (cell n h heldLists a b)) s r (reportOf d l)
+        (λ j. reportOf ((label s r ∙ cell-here n f heldLabels d (few xs) s r hs hr) j) (cell-here n g heldLists l (few xs) s r hs hr j))
+        (λ a b ne. λ j. reportOf ((label a b ∙ cell-else n f heldLabels d (few xs) s r a b hs hr ne) j) ((cell-else n g heldLists l (few xs) s r a b hs hr ne ∙ list a b) j)))
       where
         g : ℕ → ℕ
-        g = upd f (1152 + at) d
+        g = upd f (heldLabels + at) d
 
         h : ℕ → ℕ
-        h = upd g (2176 + at) l
+        h = upd g (heldLists + at) l
 
         held : ℕ → ℕ → Report
-        held a b = reportOf (cell n f 1152 a b) (cell n f 2176 a b)
+        held a b = reportOf (cell n f heldLabels a b) (cell n f heldLists a b)
 
-        label : (a b : ℕ) → cell n h 1152 a b ≡ cell n g 1152 a b
-        label a b = cell-away n g 1152 (2176 + at) l (few xs) (inr (omega arith)) a b
+        label : (a b : ℕ) → cell n h heldLabels a b ≡ cell n g heldLabels a b
+        label a b = cell-away n g heldLabels (heldLists + at) l (few xs) (inr (omega arith)) a b
 
-        list : (a b : ℕ) → cell n g 2176 a b ≡ cell n f 2176 a b
-        list a b = cell-away n f 2176 (1152 + at) d (few xs) (inl (omega (arith, few xs))) a b
+        list : (a b : ℕ) → cell n g heldLists a b ≡ cell n f heldLists a b
+        list a b = cell-away n f heldLists (heldLabels + at) d (few xs) (inl (omega (arith, few xs))) a b
 
   module _ (y d p l : ℕ) (hy : y < n) where
     abbrev g₁ : ℕ → ℕ
-    g₁ = upd f (32 + y) d
+    g₁ = upd f (rowLabels + y) d
 
     abbrev g₂ : ℕ → ℕ
-    g₂ = upd g₁ (64 + y) p
+    g₂ = upd g₁ (rowPredecessors + y) p
 
     abbrev g₃ : ℕ → ℕ
-    g₃ = upd g₂ (96 + y) l
+    g₃ = upd g₂ (rowLists + y) l
 
     small : y < 32
     small = omega (arith, few xs)
 
     -- the three words of a node
-    labels : (a : ℕ) → word n g₃ 32 a ≡ word n g₁ 32 a
-    labels a = word-away n g₂ 32 (96 + y) l (few xs) (inr (omega arith)) a ∙ word-away n g₁ 32 (64 + y) p (few xs) (inr (omega arith)) a
+    labels : (a : ℕ) → word n g₃ rowLabels a ≡ word n g₁ rowLabels a
+    labels a = word-away n g₂ rowLabels (rowLists + y) l (few xs) (inr (omega arith)) a ∙ word-away n g₁ rowLabels (rowPredecessors + y) p (few xs) (inr (omega arith)) a
 
-    predecessors : (a : ℕ) → word n g₃ 64 a ≡ word n g₂ 64 a
-    predecessors a = word-away n g₂ 64 (96 + y) l (few xs) (inr (omega arith)) a
+    predecessors : (a : ℕ) → word n g₃ rowPredecessors a ≡ word n g₂ rowPredecessors a
+    predecessors a = word-away n g₂ rowPredecessors (rowLists + y) l (few xs) (inr (omega arith)) a
 
-    before-predecessors : (a : ℕ) → word n g₁ 64 a ≡ word n f 64 a
-    before-predecessors a = word-away n f 64 (32 + y) d (few xs) (inl (omega (arith, small))) a
+    before-predecessors : (a : ℕ) → word n g₁ rowPredecessors a ≡ word n f rowPredecessors a
+    before-predecessors a = word-away n f rowPredecessors (rowLabels + y) d (few xs) (inl (omega (arith, small))) a
 
-    before-lists : (a : ℕ) → word n g₂ 96 a ≡ word n f 96 a
-    before-lists a = word-away n g₁ 96 (64 + y) p (few xs) (inl (omega (arith, small))) a ∙ word-away n f 96 (32 + y) d (few xs) (inl (omega (arith, small))) a
+    before-lists : (a : ℕ) → word n g₂ rowLists a ≡ word n f rowLists a
+    before-lists a = word-away n g₁ rowLists (rowPredecessors + y) p (few xs) (inl (omega (arith, small))) a ∙ word-away n f rowLists (rowLabels + y) d (few xs) (inl (omega (arith, small))) a
 
-    elsewhere : (a : ℕ) → a ≢ y → rowOf (word n g₃ 32 a) (word n g₃ 64 a) (word n g₃ 96 a) ≡ rowOf (word n f 32 a) (word n f 64 a) (word n f 96 a)
+    elsewhere : (a : ℕ) → a ≢ y → rowOf (word n g₃ rowLabels a) (word n g₃ rowPredecessors a) (word n g₃ rowLists a) ≡ rowOf (word n f rowLabels a) (word n f rowPredecessors a) (word n f rowLists a)
     elsewhere a ne =
-        λ j. rowOf ((labels a ∙ word-else n f 32 d (few xs) y a ne) j) ((predecessors a ∙ word-else n g₁ 64 p (few xs) y a ne ∙ before-predecessors a) j)
-        ((word-else n g₂ 96 l (few xs) y a ne ∙ before-lists a) j)
+        λ j. rowOf ((labels a ∙ word-else n f rowLabels d (few xs) y a ne) j) ((predecessors a ∙ word-else n g₁ rowPredecessors p (few xs) y a ne ∙ before-predecessors a) j)
+        ((word-else n g₂ rowLists l (few xs) y a ne ∙ before-lists a) j)
 
-    there : rowOf (word n g₃ 32 y) (word n g₃ 64 y) (word n g₃ 96 y) ≡ rowOf d p l
+    there : rowOf (word n g₃ rowLabels y) (word n g₃ rowPredecessors y) (word n g₃ rowLists y) ≡ rowOf d p l
     there =
-        λ j. rowOf ((labels y ∙ word-here n f 32 d (few xs) y hy) j) ((predecessors y ∙ word-here n g₁ 64 p (few xs) y hy) j) (word-here n g₂ 96 l (few xs) y hy j)
+        λ j. rowOf ((labels y ∙ word-here n f rowLabels d (few xs) y hy) j) ((predecessors y ∙ word-here n g₁ rowPredecessors p (few xs) y hy) j) (word-here n g₂ rowLists l (few xs) y hy j)
 
     -- a store to the rows leaves costs and reports
-    cells : (b : ℕ) → 128 ≤ b → (s r : ℕ) → cell n g₃ b s r ≡ cell n f b s r
+    cells : (b : ℕ) → arcCosts ≤ b → (s r : ℕ) → cell n g₃ b s r ≡ cell n f b s r
     cells b h s r =
-        cell-away n g₂ b (96 + y) l (few xs) (inl (omega (arith, small))) s r
-        ∙ cell-away n g₁ b (64 + y) p (few xs) (inl (omega (arith, small))) s r
-        ∙ cell-away n f b (32 + y) d (few xs) (inl (omega (arith, small))) s r
+        cell-away n g₂ b (rowLists + y) l (few xs) (inl (omega (arith, small))) s r
+        ∙ cell-away n g₁ b (rowPredecessors + y) p (few xs) (inl (omega (arith, small))) s r
+        ∙ cell-away n f b (rowLabels + y) d (few xs) (inl (omega (arith, small))) s r
 
-    stored : Gives (set (set (set xs (32 + y) d) (64 + y) p) (96 + y) l) n o g₃
+    stored : Gives (set (set (set xs (rowLabels + y) d) (rowPredecessors + y) p) (rowLists + y) l) n o g₃
     stored =
-        gives-set (96 + y) l (gives-set (64 + y) p (gives-set (32 + y) d (gives-start xs size) (omega arith) (omega (arith, small))) (omega arith) (omega (arith, small)))
+        gives-set (rowLists + y) l (gives-set (rowPredecessors + y) p (gives-set (rowLabels + y) d (gives-start xs size) (omega arith) (omega (arith, small))) (omega arith) (omega (arith, small)))
         (omega arith) (omega (arith, small))
 
-    pub store-row : y ≢ o → view (set (set (set xs (32 + y) d) (64 + y) p) (96 + y) l) ≡ withRow (view xs) y (rowOf d p l)
+    pub store-row : y ≢ o → view (set (set (set xs (rowLabels + y) d) (rowPredecessors + y) p) (rowLists + y) l) ≡ withRow (view xs) y (rowOf d p l)
     unfolding withRow view netOf rowAt
     store-row ne =
         gives-view stored
-        ∙ same-net _ _ refl refl (cells 128 (omega arith))
+        ∙ same-net _ _ refl refl (cells arcCosts (omega arith))
         (by-place (rowAt n f o) (rowAt n g₃ o) y (rowOf d p l) (rw (ne-eqb y o ne) there) (λ a e. ap (λ w. cond (eqb a o) (root (own o)) w) (elsewhere a e)))
-        (λ a b. λ j. reportOf (cells 1152 (omega arith) a b j) (cells 2176 (omega arith) a b j))
+        (λ a b. λ j. reportOf (cells heldLabels (omega arith) a b j) (cells heldLists (omega arith) a b j))
 
     -- the origin's words are not read
-    pub store-origin : y ≡ o → view (set (set (set xs (32 + y) d) (64 + y) p) (96 + y) l) ≡ view xs
+    pub store-origin : y ≡ o → view (set (set (set xs (rowLabels + y) d) (rowPredecessors + y) p) (rowLists + y) l) ≡ view xs
     unfolding view netOf rowAt
     store-origin e =
         gives-view stored
-        ∙ same-net _ _ refl refl (cells 128 (omega arith)) row
-        (λ a b. λ j. reportOf (cells 1152 (omega arith) a b j) (cells 2176 (omega arith) a b j))
+        ∙ same-net _ _ refl refl (cells arcCosts (omega arith)) row
+        (λ a b. λ j. reportOf (cells heldLabels (omega arith) a b j) (cells heldLists (omega arith) a b j))
       where
         row : (a : ℕ) → rowAt n g₃ o a ≡ rowAt n f o a
         row a = go (eq-or-ne a o)

@@ -1,7 +1,6 @@
 -- How a network lies in 3,200 words, and the network that any list of words gives: the one file that knows.
--- Word 0 is n and word 1 the origin. By node, from 32 on labels, from 64 predecessors, from 96 lists of rows. By receiver * 32 + sender, from
--- 128 on costs, from 1,152 labels, from 2,176 lists of held reports. A list of 0 is no route, or an empty report.
--- The origin's row is not read from memory, an n above 32 counts as 32, and what lies at nodes not below n plays no part.
+-- Word 0 is n and word 1 the origin. Rows lie by node, costs and held reports by receiver times 32 plus sender. A list of 0 is no route, or an
+-- empty report. The origin's row is not read from memory, an n above 32 counts as 32, and what lies at nodes not below n plays no part.
 -- Assumes nothing.
 use mathlib.Core.Bool.{cond, _&&_}
 use mathlib.Core.List.{List}
@@ -17,11 +16,31 @@ use Rattle.network.specs.Words.{reportOf}
 abbrev pub words : ℕ
 words = 3200
 
--- the word of node y in the plane at b
+-- where labels, predecessors and lists of rows begin
+abbrev pub rowLabels : ℕ
+rowLabels = 32
+
+abbrev pub rowPredecessors : ℕ
+rowPredecessors = 64
+
+abbrev pub rowLists : ℕ
+rowLists = 96
+
+-- where costs, and labels and lists of held reports begin
+abbrev pub arcCosts : ℕ
+arcCosts = 128
+
+abbrev pub heldLabels : ℕ
+heldLabels = 1152
+
+abbrev pub heldLists : ℕ
+heldLists = 2176
+
+-- the word of node y among those that begin at b
 unfoldable pub word : ℕ → (ℕ → ℕ) → ℕ → ℕ → ℕ
 word n f b y = cond (ltb y n) (f (b + y)) 0
 
--- the word of a pair in the plane at b
+-- the word of a pair among those that begin at b
 unfoldable pub cell : ℕ → (ℕ → ℕ) → ℕ → ℕ → ℕ → ℕ
 cell n f b s r = cond (ltb s n && ltb r n) (f (b + (r * 32 + s))) 0
 
@@ -31,7 +50,7 @@ rowOf d p l = cond (eqb l 0) none (via d p l)
 
 -- the row of node y
 unfoldable pub rowAt : ℕ → (ℕ → ℕ) → ℕ → ℕ → Row
-rowAt n f origin y = cond (eqb y origin) (root (own origin)) (rowOf (word n f 32 y) (word n f 64 y) (word n f 96 y))
+rowAt n f origin y = cond (eqb y origin) (root (own origin)) (rowOf (word n f rowLabels y) (word n f rowPredecessors y) (word n f rowLists y))
 
 -- the network of n nodes that the words f give
 unfoldable pub netOf : ℕ → ℕ → (ℕ → ℕ) → Net
@@ -39,9 +58,9 @@ netOf n origin f =
     record {
       nodes = n;
       origin = origin;
-      cost = cell n f 128;
+      cost = cell n f arcCosts;
       row = rowAt n f origin;
-      held = λ s r. reportOf (cell n f 1152 s r) (cell n f 2176 s r);
+      held = λ s r. reportOf (cell n f heldLabels s r) (cell n f heldLists s r);
     }
 
 abbrev pub look : List ℕ → ℕ → ℕ

@@ -78,8 +78,8 @@ pub fn nodes(net: &Network) -> u32
     ensures { λ r. ⌜ r ≡ view (now (net .entry)) .nodes ⌝ }
 {
     let n = net[NODES];
-    if 32 < n {
-        return 32;
+    if network::MAX_NODES < n {
+        return network::MAX_NODES;
     }
     n
 }

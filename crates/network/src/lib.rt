@@ -20,6 +20,9 @@ pub const MAX_LABEL: u32 = 31 * 65535;
 
 pub const MAX_GRADE: u32 = 15;
 
+// The largest offer.
+const MAX_SUM: u64 = MAX_LABEL as u64;
+
 // The cost of each grade; grade 0 removes the arc.
 const GRADES: [u32; 16] = [
     0,
@@ -160,7 +163,7 @@ pub fn offer_of(label: u32, list: u32, cost: u32, receiver: u32) -> Offer
         return Offer::Nothing;
     }
     let sum = total(label, cost);
-    if 2031585 < sum {
+    if MAX_SUM < sum {
         return Offer::Nothing;
     }
     Offer::Sum(sum as u32)

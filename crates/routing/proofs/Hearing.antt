@@ -16,7 +16,7 @@ use Rattle.ancestors.proofs.Laws.{put-some}
 use Rattle.network.specs.Network.{none, root, via, Report, empty, told, Net, setPair, withHeld}
 use Rattle.network.specs.Round.{Marks, report, hear, everyArc}
 use Rattle.network.specs.Words.{reportOf}
-use Rattle.memory.specs.Layout.{words, rowOf, look, view}
+use Rattle.memory.specs.Layout.{words, rowOf, look, view, arcCosts, heldLabels, heldLists, rowLabels, rowLists, rowPredecessors}
 use Rattle.memory.specs.Inner.{Node}
 use Rattle.routing.specs.Inner.{Nodes, Primed, Hears, oneMark, rowMarks, wordMarks, arcRow, arcMarks}
 use Rattle.memory.proofs.Store.{same-net, few, cost-beyond, read-held, read-relay, read-origin, store-report, store-origin}
@@ -79,16 +79,16 @@ unfolding report reportOf
 report-root o = rw (ne-eqb (own o) 0 (put-some 0 o))
 
 -- a sender's words in memory are what its row reports
-pub read-report : (xs : List ℕ) → Primed xs → (s : ℕ) → s < view xs .nodes → reportOf (look xs (32 + s)) (look xs (96 + s)) ≡ report (view xs .row s)
+pub read-report : (xs : List ℕ) → Primed xs → (s : ℕ) → s < view xs .nodes → reportOf (look xs (rowLabels + s)) (look xs (rowLists + s)) ≡ report (view xs .row s)
 read-report xs primed s h = go (eq-or-ne s (view xs .origin))
   where
-    go : (s ≡ view xs .origin) ⊎ (s ≢ view xs .origin) → reportOf (look xs (32 + s)) (look xs (96 + s)) ≡ report (view xs .row s)
+    go : (s ≡ view xs .origin) ⊎ (s ≢ view xs .origin) → reportOf (look xs (rowLabels + s)) (look xs (rowLists + s)) ≡ report (view xs .row s)
     go (inl e) =
         let i : view xs .origin < view xs .nodes = subst (λ y. y < view xs .nodes) e h in
-        ap (λ y. reportOf (look xs (32 + y)) (look xs (96 + y))) e ∙ ap₂ reportOf (primed .label i) (primed .list i)
+        ap (λ y. reportOf (look xs (rowLabels + y)) (look xs (rowLists + y))) e ∙ ap₂ reportOf (primed .label i) (primed .list i)
         ∙ report-root (view xs .origin) ∙ sym (ap report (read-origin xs s e ∙ ap (λ y. root (own y)) e))
     go (inr n) =
-        sym (report-of (look xs (32 + s)) (look xs (64 + s)) (look xs (96 + s))) ∙ ap report (read-relay xs s h n)
+        sym (report-of (look xs (rowLabels + s)) (look xs (rowPredecessors + s)) (look xs (rowLists + s))) ∙ ap report (read-relay xs s h n)
 
 either-report : (t : Bool) (d d′ l l′ : ℕ) → reportOf (cond t d d′) (cond t l l′) ≡ cond t (reportOf d l) (reportOf d′ l′)
 either-report true d d′ l l′ = refl
@@ -96,12 +96,12 @@ either-report false d d′ l l′ = refl
 
 -- a store past the rows leaves the origin's words
 primed-set : (xs ys : List ℕ) → view ys .nodes ≡ view xs .nodes → view ys .origin ≡ view xs .origin
-    → ((k : ℕ) → k < 128 → look ys k ≡ look xs k) → Primed xs → Primed ys
+    → ((k : ℕ) → k < arcCosts → look ys k ≡ look xs k) → Primed xs → Primed ys
 primed-set xs ys n o e p =
     record {
-      label = λ h. let i : view xs .origin < view xs .nodes = omega (arith, n, o) in ap (λ y. look ys (32 + y)) o ∙ e (32 + view xs .origin) (omega (arith, few xs)) ∙ p .label i;
+      label = λ h. let i : view xs .origin < view xs .nodes = omega (arith, n, o) in ap (λ y. look ys (rowLabels + y)) o ∙ e (rowLabels + view xs .origin) (omega (arith, few xs)) ∙ p .label i;
       list = λ h. let i : view xs .origin < view xs .nodes = omega (arith, n, o) in
-          ap (λ y. look ys (96 + y)) o ∙ e (96 + view xs .origin) (omega (arith, few xs)) ∙ p .list i ∙ ap own (sym o);
+          ap (λ y. look ys (rowLists + y)) o ∙ e (rowLists + view xs .origin) (omega (arith, few xs)) ∙ p .list i ∙ ap own (sym o);
     }
 
 -- two stores hear one arc
@@ -110,31 +110,31 @@ module _ (xs : List ℕ) (size : length xs ≡ words) (primed : Primed xs) (s r 
   at = r * 32 + s
 
   abbrev ys : List ℕ
-  ys = set xs (1152 + at) d
+  ys = set xs (heldLabels + at) d
 
-  pub hear-arc : d ≡ cond t (look xs (32 + s)) (look xs (1152 + at)) → l ≡ cond t (look ys (96 + s)) (look ys (2176 + at))
-      → Hears (set ys (2176 + at) l) (hear (oneMark s r t) (view xs))
+  pub hear-arc : d ≡ cond t (look xs (rowLabels + s)) (look xs (heldLabels + at)) → l ≡ cond t (look ys (rowLists + s)) (look ys (heldLists + at))
+      → Hears (set ys (heldLists + at) l) (hear (oneMark s r t) (view xs))
   hear-arc p q =
       record {
         net = heard;
-        primed = primed-set xs (set ys (2176 + at) l) (ap (λ (x : Net). x .nodes) heard ∙ hear-nodes _ _) (ap (λ (x : Net). x .origin) heard ∙ hear-origin _ _) rows primed;
+        primed = primed-set xs (set ys (heldLists + at) l) (ap (λ (x : Net). x .nodes) heard ∙ hear-nodes _ _) (ap (λ (x : Net). x .origin) heard ∙ hear-origin _ _) rows primed;
       }
     where
-      l-is : l ≡ cond t (look xs (96 + s)) (look xs (2176 + at))
+      l-is : l ≡ cond t (look xs (rowLists + s)) (look xs (heldLists + at))
       l-is =
-          q ∙ (λ j. cond t (getD-set-other xs (1152 + at) (96 + s) d 0 (λ e. omega (arith, few xs)) j) (getD-set-other xs (1152 + at) (2176 + at) d 0 (λ e. omega arith) j))
+          q ∙ (λ j. cond t (getD-set-other xs (heldLabels + at) (rowLists + s) d 0 (λ e. omega (arith, few xs)) j) (getD-set-other xs (heldLabels + at) (heldLists + at) d 0 (λ e. omega arith) j))
 
       new : reportOf d l ≡ cond t (report (view xs .row s)) (view xs .held s r)
       new =
           ap₂ reportOf p l-is
-          ∙ either-report t (look xs (32 + s)) (look xs (1152 + at)) (look xs (96 + s)) (look xs (2176 + at))
+          ∙ either-report t (look xs (rowLabels + s)) (look xs (heldLabels + at)) (look xs (rowLists + s)) (look xs (heldLists + at))
           ∙ ap₂ (cond t) (read-report xs primed s hs) (read-held xs s r hs hr)
 
-      heard : view (set ys (2176 + at) l) ≡ hear (oneMark s r t) (view xs)
+      heard : view (set ys (heldLists + at) l) ≡ hear (oneMark s r t) (view xs)
       heard = store-report xs size s r hs hr d l ∙ ap (withHeld (view xs) s r) new ∙ hear-one (view xs) s r t
 
-      rows : (k : ℕ) → k < 128 → look (set ys (2176 + at) l) k ≡ look xs k
-      rows k h = getD-set-other ys (2176 + at) k l 0 (λ e. omega arith) ∙ getD-set-other xs (1152 + at) k d 0 (λ e. omega arith)
+      rows : (k : ℕ) → k < arcCosts → look (set ys (heldLists + at) l) k ≡ look xs k
+      rows k h = getD-set-other ys (heldLists + at) k l 0 (λ e. omega arith) ∙ getD-set-other xs (heldLabels + at) k d 0 (λ e. omega arith)
 
 -- ---- loops
 
@@ -256,24 +256,24 @@ module _ (xs : List ℕ) where
 
 -- ---- the origin's words set
 module _ (xs : List ℕ) (size : length xs ≡ words) (y l : ℕ) (e : y ≡ view xs .origin) (h : y < view xs .nodes) where
-  pub primes : l ≡ own y → Hears (set (set (set xs (32 + y) 0) (64 + y) 0) (96 + y) l) (view xs)
+  pub primes : l ≡ own y → Hears (set (set (set xs (rowLabels + y) 0) (rowPredecessors + y) 0) (rowLists + y) l) (view xs)
   primes q =
       record {
         net = same;
         primed = record {
-          label = λ _. ap (λ z. look zs (32 + z)) (o ∙ sym e) ∙ label;
-          list = λ _. ap (λ z. look zs (96 + z)) (o ∙ sym e) ∙ list ∙ q ∙ ap own (sym (o ∙ sym e));
+          label = λ _. ap (λ z. look zs (rowLabels + z)) (o ∙ sym e) ∙ label;
+          list = λ _. ap (λ z. look zs (rowLists + z)) (o ∙ sym e) ∙ list ∙ q ∙ ap own (sym (o ∙ sym e));
         };
       }
     where
       x₁ : List ℕ
-      x₁ = set xs (32 + y) 0
+      x₁ = set xs (rowLabels + y) 0
 
       x₂ : List ℕ
-      x₂ = set x₁ (64 + y) 0
+      x₂ = set x₁ (rowPredecessors + y) 0
 
       zs : List ℕ
-      zs = set x₂ (96 + y) l
+      zs = set x₂ (rowLists + y) l
 
       same : view zs ≡ view xs
       same = store-origin xs size y 0 0 l h e
@@ -282,15 +282,15 @@ module _ (xs : List ℕ) (size : length xs ≡ words) (y l : ℕ) (e : y ≡ vie
       o = ap (λ (x : Net). x .origin) same
 
       long : length x₂ ≡ words
-      long = length-set x₁ (64 + y) 0 ∙ length-set xs (32 + y) 0 ∙ size
+      long = length-set x₁ (rowPredecessors + y) 0 ∙ length-set xs (rowLabels + y) 0 ∙ size
 
-      label : look zs (32 + y) ≡ 0
+      label : look zs (rowLabels + y) ≡ 0
       label =
-          getD-set-other x₂ (96 + y) (32 + y) l 0 (λ k. omega arith) ∙ getD-set-other x₁ (64 + y) (32 + y) 0 0 (λ k. omega arith)
-          ∙ getD-set-same xs (32 + y) 0 0 (omega (arith, few xs, size))
+          getD-set-other x₂ (rowLists + y) (rowLabels + y) l 0 (λ k. omega arith) ∙ getD-set-other x₁ (rowPredecessors + y) (rowLabels + y) 0 0 (λ k. omega arith)
+          ∙ getD-set-same xs (rowLabels + y) 0 0 (omega (arith, few xs, size))
 
-      list : look zs (96 + y) ≡ l
-      list = getD-set-same x₂ (96 + y) l 0 (omega (arith, few xs, long))
+      list : look zs (rowLists + y) ≡ l
+      list = getD-set-same x₂ (rowLists + y) l 0 (omega (arith, few xs, long))
 
 -- where the origin is no node, nothing is asked of its words
 pub unprimed : (xs : List ℕ) → view xs .nodes ≤ view xs .origin → Hears xs (view xs)

@@ -18,7 +18,7 @@ use Rattle.network.specs.Words.{reports, costsOf, ChoiceAnswer, chosen, wordsFa
 use Rattle.network.specs.declared.Choice.{Choice}
 use Rattle.network.specs.declared.Choice.the-variants.{Refused, NoRoute, Route}
 use Rattle.network.proofs.Choosing.{choice-ext, came}
-use Rattle.memory.specs.Layout.{words, rowOf, look, view}
+use Rattle.memory.specs.Layout.{words, rowOf, look, view, arcCosts, heldLabels, heldLists}
 use Rattle.memory.specs.Inner.{Node}
 use Rattle.routing.specs.Inner.{Nodes}
 use Rattle.memory.proofs.Store.{same-net, few, read-cost, read-held}
@@ -38,25 +38,25 @@ module _ (xs : List ℕ) (c n : ℕ) (h : c + n ≤ length xs) where
 
 -- y's choice from its words is its choice in the network
 module _ (xs : List ℕ) (size : length xs ≡ words) (n y : ℕ) (is : n ≡ view xs .nodes) (below : y < view xs .nodes) where
-  room : (b : ℕ) → b ≤ 2176 → b + y * 32 + n ≤ length xs
+  room : (b : ℕ) → b ≤ heldLists → b + y * 32 + n ≤ length xs
   room b h = omega (arith, few xs)
 
   abbrev costs : List ℕ
-  costs = part xs (128 + y * 32) n
+  costs = part xs (arcCosts + y * 32) n
 
   abbrev labels : List ℕ
-  labels = part xs (1152 + y * 32) n
+  labels = part xs (heldLabels + y * 32) n
 
   abbrev lists : List ℕ
-  lists = part xs (2176 + y * 32) n
+  lists = part xs (heldLists + y * 32) n
 
   cost-at : (s : ℕ) → s < n → costsOf costs s ≡ view xs .cost s y
-  cost-at s h = part-at xs (128 + y * 32) n (room 128 (omega arith)) s h ∙ ap (look xs) (omega arith) ∙ read-cost xs s y (omega arith) below
+  cost-at s h = part-at xs (arcCosts + y * 32) n (room arcCosts (omega arith)) s h ∙ ap (look xs) (omega arith) ∙ read-cost xs s y (omega arith) below
 
   held-at : (s : ℕ) → s < n → reports labels lists s ≡ view xs .held s y
   held-at s h =
-      ap₂ (λ d l. reportsOf d l) (part-at xs (1152 + y * 32) n (room 1152 (omega arith)) s h ∙ ap (look xs) (omega arith))
-      (part-at xs (2176 + y * 32) n (room 2176 (omega arith)) s h ∙ ap (look xs) (omega arith))
+      ap₂ (λ d l. reportsOf d l) (part-at xs (heldLabels + y * 32) n (room heldLabels (omega arith)) s h ∙ ap (look xs) (omega arith))
+      (part-at xs (heldLists + y * 32) n (room heldLists (omega arith)) s h ∙ ap (look xs) (omega arith))
       ∙ read-held xs s y (omega arith) below
     where
       reportsOf : ℕ → ℕ → Report
@@ -65,9 +65,9 @@ module _ (xs : List ℕ) (size : length xs ≡ words) (n y : ℕ) (is : n ≡ vi
   pub choose-words : chooseOf costs labels lists y ≡ chosen (choice n (λ s. view xs .cost s y) (λ s. view xs .held s y) y)
   unfolding chooseOf wordsFault
   choose-words =
-      let a = part-length xs (128 + y * 32) n (room 128 (omega arith)) in
-      let b = part-length xs (1152 + y * 32) n (room 1152 (omega arith)) in
-      let d = part-length xs (2176 + y * 32) n (room 2176 (omega arith)) in
+      let a = part-length xs (arcCosts + y * 32) n (room arcCosts (omega arith)) in
+      let b = part-length xs (heldLabels + y * 32) n (room heldLabels (omega arith)) in
+      let d = part-length xs (heldLists + y * 32) n (room heldLists (omega arith)) in
       rw (a, b, d, le-ltb 32 n (omega (arith, few xs)), eqb-same n, lt-leb 32 y (omega (arith, few xs)))
       (ap chosen (choice-ext n (costsOf costs) (λ s. view xs .cost s y) (reports labels lists) (λ s. view xs .held s y) y cost-at held-at))
 

@@ -10,7 +10,7 @@ use Rattle.ancestors.specs.Ancestors.{has, own}
 use Rattle.network.specs.Faults.{pairFault}
 use Rattle.network.specs.Network.{Net}
 use Rattle.network.specs.Round.{Marks, some}
-use Rattle.memory.specs.Layout.{look, view}
+use Rattle.memory.specs.Layout.{look, view, rowLabels, rowLists}
 
 -- n is the number of nodes
 pub record Nodes (xs : List ℕ) (n : ℕ) : Type 0 where
@@ -19,8 +19,8 @@ pub record Nodes (xs : List ℕ) (n : ℕ) : Type 0 where
 
 -- the origin's words in memory, which hearing copies, are those of its row
 pub record Primed (xs : List ℕ) : Type 0 where
-  pub label : view xs .origin < view xs .nodes → look xs (32 + view xs .origin) ≡ 0
-  pub list : view xs .origin < view xs .nodes → look xs (96 + view xs .origin) ≡ own (view xs .origin)
+  pub label : view xs .origin < view xs .nodes → look xs (rowLabels + view xs .origin) ≡ 0
+  pub list : view xs .origin < view xs .nodes → look xs (rowLists + view xs .origin) ≡ own (view xs .origin)
 
 -- the words give the network x, and the origin's among them are those of its row
 pub record Hears (xs : List ℕ) (x : Net) : Type 0 where
