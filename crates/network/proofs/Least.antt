@@ -1,6 +1,6 @@
 -- The winner as a loop keeps it: the least sum so far, above the largest label where there is none, and its sender.
 -- Assumes nothing.
-use mathlib.Core.Path.{_≡_, refl, ap}
+use mathlib.Core.Path.{_≡_, refl, ap, subst}
 use mathlib.Core.Bool.{Bool, true, false, cond, _||_, or-true}
 use mathlib.Core.Logic.{_⊎_, inl, inr, _≢_}
 use mathlib.Core.List.{List}
@@ -22,7 +22,7 @@ use Rattle.network.specs.declared.Offer.the-variants.{Nothing, Sum}
 unfoldable pub winnerOf : ℕ → ℕ → Winner
 winnerOf b p = cond (leb b maxLabel) (sender p b) nobody
 
-pub least-none : (f : ℕ → Offer) → winner f 0 ≡ winnerOf 2031586 0
+pub least-none : (f : ℕ → Offer) → winner f 0 ≡ winnerOf (maxLabel + 1) 0
 unfolding winner winnerOf
 least-none f = refl
 
@@ -65,8 +65,15 @@ list-of-words d l = go (eq-or-ne l 0)
     go (inl e) = rw e
     go (inr n) = rw (ne-eqb l 0 n)
 
-module _ (costs labels lists : List ℕ) (y b p : ℕ)
-    (e : winner (λ s. offer y (costsOf costs s) (reports labels lists s)) (length costs) ≡ winnerOf b p) where
+-- the offers that the words make to y, by sender
+abbrev pub offers : List ℕ → List ℕ → List ℕ → ℕ → ℕ → Offer
+offers costs labels lists y s = offer y (costsOf costs s) (reports labels lists s)
+
+-- once every sender is passed
+module _ (costs labels lists : List ℕ) (y s b p : ℕ) (all : s ≡ length costs) (w : winner (offers costs labels lists y) s ≡ winnerOf b p) where
+  e : winner (offers costs labels lists y) (length costs) ≡ winnerOf b p
+  e = subst (λ k. winner (offers costs labels lists y) k ≡ winnerOf b p) all w
+
   pub choice-none : maxLabel < b → choice (length costs) (costsOf costs) (reports labels lists) y ≡ none
   unfolding choice rowBy winnerOf
   choice-none h = rw (e, lt-leb b maxLabel h)

@@ -19,14 +19,29 @@ pair-fault-requires c κs = search needs
 
 returns : tie.Need-returns
 unfolding costMeans readCost
-returns c = let a = c .before .before .before .args in let w = now (a .net) in let e : pairFault (view w .nodes) (a .sender) (a .receiver) ≡ true = cc in rw e
+returns c =
+    let a = c .before .before .before .args in
+    let w = now (a .net) in
+    let e : pairFault (view w .nodes) (a .sender) (a .receiver) ≡ true = cc in
+    rw e
 
 cost-word-requires : tie.Need-cost-word-requires
-cost-word-requires c κs = let a = c .before .before .before .before .args in let w = now (a .net) in let n = c .before .before .before .nodes .ensures in let f = (sym (c .before .before .pair-fault .ensures) ∙ c .before .if1 .left) in let s = sender-node w _ (a .sender) (a .receiver) n f in let r = receiver-node w _ (a .sender) (a .receiver) n f in (search needs, (s, r))
+cost-word-requires c κs =
+    let a = c .before .before .before .before .args in
+    let w = now (a .net) in
+    let n = c .before .before .before .nodes .ensures in
+    let f = (sym (c .before .before .pair-fault .ensures) ∙ c .before .if1 .left) in
+    let s = sender-node w _ (a .sender) (a .receiver) n f in
+    let r = receiver-node w _ (a .sender) (a .receiver) n f in
+    (search needs, (s, r))
 
 returns-2 : tie.Need-returns-2
 unfolding costMeans readCost
-returns-2 c = let a = c .before .before .before .before .before .args in let w = now (a .net) in let e : pairFault (view w .nodes) (a .sender) (a .receiver) ≡ false = cc in rw (e, c .cost-word .ensures)
+returns-2 c =
+    let a = c .before .before .before .before .before .args in
+    let w = now (a .net) in
+    let e : pairFault (view w .nodes) (a .sender) (a .receiver) ≡ false = cc in
+    rw (e, c .cost-word .ensures)
 
 pub arc-cost-spec : {M : Type 1} → statement M
 arc-cost-spec =

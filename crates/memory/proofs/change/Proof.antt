@@ -15,16 +15,41 @@ pair-fault-requires : tie.Need-pair-fault-requires
 pair-fault-requires c κs = search needs
 
 returns : tie.Need-returns
-returns c = let a = c .before .before .before .before .args in let w = now (a .net) in change-pair w (c .before .before .nodes .result) (a .sender) (a .receiver) (c .before .before .nodes .ensures) (a .cost) (sym (c .before .pair-fault .ensures) ∙ c .if1 .taken)
+returns c =
+    let a = c .before .before .before .before .args in
+    let w = now (a .net) in
+    change-pair w (c .before .before .nodes .result) (a .sender) (a .receiver) (c .before .before .nodes .ensures) (a .cost)
+    (sym (c .before .pair-fault .ensures) ∙ c .if1 .taken)
 
 returns-2 : tie.Need-returns-2
-returns-2 c = let a = c .before .before .before .before .before .args in let w = now (a .net) in change-cost w (c .before .before .before .nodes .result) (a .sender) (a .receiver) (c .before .before .before .nodes .ensures) (a .cost) (sym (c .before .before .pair-fault .ensures) ∙ c .before .if1 .left) (c .if2 .taken)
+returns-2 c =
+    let a = c .before .before .before .before .before .args in
+    let w = now (a .net) in
+    change-cost w (c .before .before .before .nodes .result) (a .sender) (a .receiver) (c .before .before .before .nodes .ensures)
+    (a .cost) (sym (c .before .before .pair-fault .ensures) ∙ c .before .if1 .left) (c .if2 .taken)
 
 set-arc-requires : tie.Need-set-arc-requires
-set-arc-requires c κs = let a = c .before .before .before .before .before .before .args in let w = now (a .net) in let n = c .before .before .before .before .nodes in let f = (sym (c .before .before .before .pair-fault .ensures) ∙ c .before .before .if1 .left) in (search needs, (sender-node w (n .result) (a .sender) (a .receiver) (n .ensures) f, receiver-node w (n .result) (a .sender) (a .receiver) (n .ensures) f))
+set-arc-requires c κs =
+    let a = c .before .before .before .before .before .before .args in
+    let w = now (a .net) in
+    let n = c .before .before .before .before .nodes in
+    let f = (sym (c .before .before .before .pair-fault .ensures) ∙ c .before .before .if1 .left) in (
+      search needs,
+      (
+        sender-node w (n .result) (a .sender) (a .receiver) (n .ensures) f,
+        receiver-node w (n .result) (a .sender)
+            (a .receiver) (n .ensures) f,
+      ),
+    )
 
 returns-3 : tie.Need-returns-3
-returns-3 c = let a = c .before .before .before .before .before .before .before .args in let w = now (a .net) in change-done w (c .before .before .before .before .before .nodes .result) (a .sender) (a .receiver) (c .before .before .before .before .before .nodes .ensures) (a .cost) (c .set-arc .last .0) (sym (c .before .before .before .before .pair-fault .ensures) ∙ c .before .before .before .if1 .left) (c .before .before .if2 .left) (c .set-arc .ensures)
+returns-3 c =
+    let a = c .before .before .before .before .before .before .before .args in
+    let w = now (a .net) in
+    change-done w (c .before .before .before .before .before .nodes .result) (a .sender) (a .receiver)
+    (c .before .before .before .before .before .nodes .ensures) (a .cost) (c .set-arc .last .0) (sym
+    (c .before .before .before .before .pair-fault .ensures) ∙ c .before .before .before .if1 .left)
+    (c .before .before .if2 .left) (c .set-arc .ensures)
 
 pub change-spec : {M : Type 1} → statement M
 change-spec =

@@ -21,13 +21,17 @@ fresh-words-requires-3 : tie.Need-fresh-words-requires-3
 fresh-words-requires-3 c κs = search needs
 
 returns-3 : tie.Need-returns-3
-returns-3 c = fresh-no-origin _ _ _ (c .fresh-words3 .ensures) (c .before .before .before .if1 .left) (c .before .before .if2 .left) (c .before .if3 .taken)
+returns-3 c =
+    fresh-no-origin _ _ _ (c .fresh-words3 .ensures) (c .before .before .before .if1 .left) (c .before .before .if2 .left)
+    (c .before .if3 .taken)
 
 fresh-words-requires-4 : tie.Need-fresh-words-requires-4
 fresh-words-requires-4 c κs = search needs
 
 returns-4 : tie.Need-returns-4
-returns-4 c = fresh-accepted _ _ _ (c .before .before .before .if1 .left) (c .before .before .if2 .left) (c .before .if3 .left) (c .fresh-words4 .ensures)
+returns-4 c =
+    fresh-accepted _ _ _ (c .before .before .before .if1 .left) (c .before .before .if2 .left) (c .before .if3 .left)
+    (c .fresh-words4 .ensures)
 
 pub fresh-spec : {M : Type 1} → statement M
 fresh-spec =

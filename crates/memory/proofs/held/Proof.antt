@@ -21,7 +21,11 @@ pair-fault-requires c κs = search needs
 
 returns : tie.Need-returns
 unfolding heldMeans readHeld
-returns c = let a = c .before .before .before .args in let w = now (a .net) in let e : pairFault (view w .nodes) (a .sender) (a .receiver) ≡ true = cc in rw e
+returns c =
+    let a = c .before .before .before .args in
+    let w = now (a .net) in
+    let e : pairFault (view w .nodes) (a .sender) (a .receiver) ≡ true = cc in
+    rw e
 
 mul-at : tie.Need-mul-at
 mul-at c = search needs
@@ -36,10 +40,21 @@ mul-list : tie.Need-mul-list
 mul-list c = search needs
 
 element-copy-out-list : tie.Need-element-copy-out-list
-element-copy-out-list c = let a = c .before .before .before .args in let w = now (a .net) in let n = c .before .before .nodes .ensures in let f = (sym (c .before .pair-fault .ensures) ∙ c .if1 .left) in let s = sender-node w _ (a .sender) (a .receiver) n f in let r = receiver-node w _ (a .sender) (a .receiver) n f in omega arith
+element-copy-out-list c =
+    let a = c .before .before .before .args in
+    let w = now (a .net) in
+    let n = c .before .before .nodes .ensures in
+    let f = (sym (c .before .pair-fault .ensures) ∙ c .if1 .left) in
+    let s = sender-node w _ (a .sender) (a .receiver) n f in
+    let r = receiver-node w _ (a .sender) (a .receiver) n f in
+    omega arith
 
 returns-2 : tie.Need-returns-2
-returns-2 c = let a = c .before .before .before .before .before .args in let w = now (a .net) in let e : pairFault (view w .nodes) (a .sender) (a .receiver) ≡ false = cc in held-none w (a .sender) (a .receiver) e (c .if2 .taken)
+returns-2 c =
+    let a = c .before .before .before .before .before .args in
+    let w = now (a .net) in
+    let e : pairFault (view w .nodes) (a .sender) (a .receiver) ≡ false = cc in
+    held-none w (a .sender) (a .receiver) e (c .if2 .taken)
 
 add-t9 : tie.Need-add-t9
 add-t9 c = search needs
@@ -48,10 +63,21 @@ mul-t8 : tie.Need-mul-t8
 mul-t8 c = search needs
 
 element-copy-out-t7 : tie.Need-element-copy-out-t7
-element-copy-out-t7 c = let a = c .before .before .before .before .before .args in let w = now (a .net) in let n = c .before .before .before .before .nodes .ensures in let f = (sym (c .before .before .before .pair-fault .ensures) ∙ c .before .before .if1 .left) in let s = sender-node w _ (a .sender) (a .receiver) n f in let r = receiver-node w _ (a .sender) (a .receiver) n f in omega arith
+element-copy-out-t7 c =
+    let a = c .before .before .before .before .before .args in
+    let w = now (a .net) in
+    let n = c .before .before .before .before .nodes .ensures in
+    let f = (sym (c .before .before .before .pair-fault .ensures) ∙ c .before .before .if1 .left) in
+    let s = sender-node w _ (a .sender) (a .receiver) n f in
+    let r = receiver-node w _ (a .sender) (a .receiver) n f in
+    omega arith
 
 returns-3 : tie.Need-returns-3
-returns-3 c = let a = c .before .before .before .before .before .before .args in let w = now (a .net) in let e : pairFault (view w .nodes) (a .sender) (a .receiver) ≡ false = cc in held-told w (a .sender) (a .receiver) e (c .before .if2 .left)
+returns-3 c =
+    let a = c .before .before .before .before .before .before .args in
+    let w = now (a .net) in
+    let e : pairFault (view w .nodes) (a .sender) (a .receiver) ≡ false = cc in
+    held-told w (a .sender) (a .receiver) e (c .before .if2 .left)
 
 pub held-spec : {M : Type 1} → statement M
 held-spec =

@@ -13,7 +13,10 @@ report-number-requires : tie.Need-report-number-requires
 report-number-requires c κs = search needs
 
 returns : tie.Need-returns
-returns c = let a = c .before .before .before .args in let w = now (a .net) in refused-report w (a .sender) (a .receiver) (a .label) (a .list) _ (c .before .report-number .ensures) (c .if1 .taken)
+returns c =
+    let a = c .before .before .before .args in
+    let w = now (a .net) in
+    refused-report w (a .sender) (a .receiver) (a .label) (a .list) _ (c .before .report-number .ensures) (c .if1 .taken)
 
 mul-at : tie.Need-mul-at
 mul-at c = search needs
@@ -28,7 +31,12 @@ mul-all : tie.Need-mul-all
 mul-all c = search needs
 
 slice-write-all : tie.Need-slice-write-all
-slice-write-all c = let a = c .before .before .before .before .args in let w = now (a .net) in let e = sym (c .before .before .report-number .ensures) ∙ c .before .if1 .left in let p = report-place w (a .sender) (a .receiver) (a .label) (a .list) e in omega arith
+slice-write-all c =
+    let a = c .before .before .before .before .args in
+    let w = now (a .net) in
+    let e = sym (c .before .before .report-number .ensures) ∙ c .before .if1 .left in
+    let p = report-place w (a .sender) (a .receiver) (a .label) (a .list) e in
+    omega arith
 
 add-all-2 : tie.Need-add-all-2
 add-all-2 c = search needs
@@ -37,10 +45,20 @@ mul-all-2 : tie.Need-mul-all-2
 mul-all-2 c = search needs
 
 slice-write-all-2 : tie.Need-slice-write-all-2
-slice-write-all-2 c = let a = c .before .before .before .before .args in let w = now (a .net) in let e = sym (c .before .before .report-number .ensures) ∙ c .before .if1 .left in let p = report-place w (a .sender) (a .receiver) (a .label) (a .list) e in simp length-set (omega arith)
+slice-write-all-2 c =
+    let a = c .before .before .before .before .args in
+    let w = now (a .net) in
+    let e = sym (c .before .before .report-number .ensures) ∙ c .before .if1 .left in
+    let p = report-place w (a .sender) (a .receiver) (a .label) (a .list) e in
+    simp length-set (omega arith)
 
 returns-2 : tie.Need-returns-2
-returns-2 c = let a = c .before .before .before .before .args in let w = now (a .net) in let e = sym (c .before .before .report-number .ensures) ∙ c .before .if1 .left in let p = report-place w (a .sender) (a .receiver) (a .label) (a .list) e in placed-report w (a .sender) (a .receiver) (a .label) (a .list) e (search needs)
+returns-2 c =
+    let a = c .before .before .before .before .args in
+    let w = now (a .net) in
+    let e = sym (c .before .before .report-number .ensures) ∙ c .before .if1 .left in
+    let p = report-place w (a .sender) (a .receiver) (a .label) (a .list) e in
+    placed-report w (a .sender) (a .receiver) (a .label) (a .list) e (search needs)
 
 pub place-report-spec : {M : Type 1} → statement M
 place-report-spec =

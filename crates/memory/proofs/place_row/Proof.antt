@@ -14,7 +14,10 @@ row-number-requires : tie.Need-row-number-requires
 row-number-requires c κs = search needs
 
 returns : tie.Need-returns
-returns c = let a = c .before .before .before .args in let w = now (a .net) in refused-row w (a .node) (a .label) (a .predecessor) (a .list) _ (c .before .row-number .ensures) (c .if1 .taken)
+returns c =
+    let a = c .before .before .before .args in
+    let w = now (a .net) in
+    refused-row w (a .node) (a .label) (a .predecessor) (a .list) _ (c .before .row-number .ensures) (c .if1 .taken)
 
 add-all : tie.Need-add-all
 add-all c = search needs
@@ -23,7 +26,12 @@ mul-all : tie.Need-mul-all
 mul-all c = search needs
 
 slice-write-all : tie.Need-slice-write-all
-slice-write-all c = let a = c .before .before .before .before .args in let w = now (a .net) in let e = sym (c .before .before .row-number .ensures) ∙ c .before .if1 .left in let p = row-place w (a .node) (a .label) (a .predecessor) (a .list) e in omega arith
+slice-write-all c =
+    let a = c .before .before .before .before .args in
+    let w = now (a .net) in
+    let e = sym (c .before .before .row-number .ensures) ∙ c .before .if1 .left in
+    let p = row-place w (a .node) (a .label) (a .predecessor) (a .list) e in
+    omega arith
 
 add-all-2 : tie.Need-add-all-2
 add-all-2 c = search needs
@@ -32,7 +40,12 @@ mul-all-2 : tie.Need-mul-all-2
 mul-all-2 c = search needs
 
 slice-write-all-2 : tie.Need-slice-write-all-2
-slice-write-all-2 c = let a = c .before .before .before .before .args in let w = now (a .net) in let e = sym (c .before .before .row-number .ensures) ∙ c .before .if1 .left in let p = row-place w (a .node) (a .label) (a .predecessor) (a .list) e in simp length-set (omega arith)
+slice-write-all-2 c =
+    let a = c .before .before .before .before .args in
+    let w = now (a .net) in
+    let e = sym (c .before .before .row-number .ensures) ∙ c .before .if1 .left in
+    let p = row-place w (a .node) (a .label) (a .predecessor) (a .list) e in
+    simp length-set (omega arith)
 
 add-all-3 : tie.Need-add-all-3
 add-all-3 c = search needs
@@ -41,10 +54,21 @@ mul-all-3 : tie.Need-mul-all-3
 mul-all-3 c = search needs
 
 slice-write-all-3 : tie.Need-slice-write-all-3
-slice-write-all-3 c = let a = c .before .before .before .before .args in let w = now (a .net) in let e = sym (c .before .before .row-number .ensures) ∙ c .before .if1 .left in let p = row-place w (a .node) (a .label) (a .predecessor) (a .list) e in simp length-set (omega arith)
+slice-write-all-3 c =
+    let a = c .before .before .before .before .args in
+    let w = now (a .net) in
+    let e = sym (c .before .before .row-number .ensures) ∙ c .before .if1 .left in
+    let p = row-place w (a .node) (a .label) (a .predecessor) (a .list) e in
+    simp length-set (omega arith)
 
 returns-2 : tie.Need-returns-2
-returns-2 c = let a = c .before .before .before .before .args in let w = now (a .net) in let e = sym (c .before .before .row-number .ensures) ∙ c .before .if1 .left in let p = row-place w (a .node) (a .label) (a .predecessor) (a .list) e in placed-row w (a .node) (a .label) (a .predecessor) (a .list) e _ (store-row w (search needs) (a .node) (a .label) (a .predecessor) (a .list) (p .0 .below) (p .1))
+returns-2 c =
+    let a = c .before .before .before .before .args in
+    let w = now (a .net) in
+    let e = sym (c .before .before .row-number .ensures) ∙ c .before .if1 .left in
+    let p = row-place w (a .node) (a .label) (a .predecessor) (a .list) e in
+    placed-row w (a .node) (a .label) (a .predecessor) (a .list) e _ (store-row w (search needs) (a .node) (a .label)
+    (a .predecessor) (a .list) (p .0 .below) (p .1))
 
 pub place-row-spec : {M : Type 1} → statement M
 place-row-spec =

@@ -19,21 +19,42 @@ pair-fault-requires c κs = search needs
 
 returns : tie.Need-returns
 unfolding placeReportNumber
-returns c = let a = c .before .before .before .args in let w = now (a .net) in let e : pairFault (view w .nodes) (a .sender) (a .receiver) ≡ true = cc in rw e
+returns c =
+    let a = c .before .before .before .args in
+    let w = now (a .net) in
+    let e : pairFault (view w .nodes) (a .sender) (a .receiver) ≡ true = cc in
+    rw e
 
 cost-word-requires : tie.Need-cost-word-requires
-cost-word-requires c κs = let a = c .before .before .before .before .args in let w = now (a .net) in let n = c .before .before .before .nodes .ensures in let f = (sym (c .before .before .pair-fault .ensures) ∙ c .before .if1 .left) in let s = sender-node w _ (a .sender) (a .receiver) n f in let r = receiver-node w _ (a .sender) (a .receiver) n f in (search needs, (s, r))
+cost-word-requires c κs =
+    let a = c .before .before .before .before .args in
+    let w = now (a .net) in
+    let n = c .before .before .before .nodes .ensures in
+    let f = (sym (c .before .before .pair-fault .ensures) ∙ c .before .if1 .left) in
+    let s = sender-node w _ (a .sender) (a .receiver) n f in
+    let r = receiver-node w _ (a .sender) (a .receiver) n f in
+    (search needs, (s, r))
 
 report-fault-requires : tie.Need-report-fault-requires
 report-fault-requires c κs = search needs
 
 returns-2 : tie.Need-returns-2
 unfolding placeReportNumber
-returns-2 c = let a = c .before .before .before .before .before .before .before .args in let w = now (a .net) in let e : pairFault (view w .nodes) (a .sender) (a .receiver) ≡ false = cc in let f : reportFault (view w .nodes) (view w .cost (a .sender) (a .receiver)) (a .sender) (a .label) (a .list) ≡ true = cc in rw (e, f)
+returns-2 c =
+    let a = c .before .before .before .before .before .before .before .args in
+    let w = now (a .net) in
+    let e : pairFault (view w .nodes) (a .sender) (a .receiver) ≡ false = cc in
+    let f : reportFault (view w .nodes) (view w .cost (a .sender) (a .receiver)) (a .sender) (a .label) (a .list) ≡ true = cc in
+    rw (e, f)
 
 returns-3 : tie.Need-returns-3
 unfolding placeReportNumber
-returns-3 c = let a = c .before .before .before .before .before .before .before .args in let w = now (a .net) in let e : pairFault (view w .nodes) (a .sender) (a .receiver) ≡ false = cc in let f : reportFault (view w .nodes) (view w .cost (a .sender) (a .receiver)) (a .sender) (a .label) (a .list) ≡ false = cc in rw (e, f)
+returns-3 c =
+    let a = c .before .before .before .before .before .before .before .args in
+    let w = now (a .net) in
+    let e : pairFault (view w .nodes) (a .sender) (a .receiver) ≡ false = cc in
+    let f : reportFault (view w .nodes) (view w .cost (a .sender) (a .receiver)) (a .sender) (a .label) (a .list) ≡ false = cc in
+    rw (e, f)
 
 pub report-number-spec : {M : Type 1} → statement M
 report-number-spec =

@@ -26,7 +26,11 @@ count-hops-requires : tie.Need-count-hops-requires
 count-hops-requires c κs = search needs
 
 returns-2 : tie.Need-returns-2
-returns-2 c = let a = c .before .before .before .before .before .before .args in let w = now (a .net) in row-origin w (a .node) (omega arith) _ _ (c .before .before .if2 .taken ∙ read-first w) (c .before .joined .ensures) (c .count-hops .ensures)
+returns-2 c =
+    let a = c .before .before .before .before .before .before .args in
+    let w = now (a .net) in
+    row-origin w (a .node) (omega arith) _ _ (c .before .before .if2 .taken ∙ read-first w) (c .before .joined .ensures)
+    (c .count-hops .ensures)
 
 add-list : tie.Need-add-list
 add-list c = search needs
@@ -38,7 +42,10 @@ element-copy-out-list : tie.Need-element-copy-out-list
 element-copy-out-list c = let a = c .before .before .before .before .args in let w = now (a .net) in let h = few w in omega arith
 
 returns-3 : tie.Need-returns-3
-returns-3 c = let a = c .before .before .before .before .before .before .args in let w = now (a .net) in row-none w (a .node) (omega arith) (λ q. c .before .before .if2 .left (q ∙ sym (read-first w))) (c .if3 .taken)
+returns-3 c =
+    let a = c .before .before .before .before .before .before .args in
+    let w = now (a .net) in
+    row-none w (a .node) (omega arith) (λ q. c .before .before .if2 .left (q ∙ sym (read-first w))) (c .if3 .taken)
 
 add-t11 : tie.Need-add-t11
 add-t11 c = search needs
@@ -47,7 +54,11 @@ mul-t12 : tie.Need-mul-t12
 mul-t12 c = search needs
 
 element-copy-out-t6 : tie.Need-element-copy-out-t6
-element-copy-out-t6 c = let a = c .before .before .before .before .before .before .args in let w = now (a .net) in let h = few w in omega arith
+element-copy-out-t6 c =
+    let a = c .before .before .before .before .before .before .args in
+    let w = now (a .net) in
+    let h = few w in
+    omega arith
 
 add-t17 : tie.Need-add-t17
 add-t17 c = search needs
@@ -56,13 +67,21 @@ mul-t18 : tie.Need-mul-t18
 mul-t18 c = search needs
 
 element-copy-out-t21 : tie.Need-element-copy-out-t21
-element-copy-out-t21 c = let a = c .before .before .before .before .before .before .before .args in let w = now (a .net) in let h = few w in omega arith
+element-copy-out-t21 c =
+    let a = c .before .before .before .before .before .before .before .args in
+    let w = now (a .net) in
+    let h = few w in
+    omega arith
 
 count-hops-requires-2 : tie.Need-count-hops-requires-2
 count-hops-requires-2 c κs = search needs
 
 returns-4 : tie.Need-returns-4
-returns-4 c = let a = c .before .before .before .before .before .before .before .before .before .args in let w = now (a .net) in row-route w (a .node) (omega arith) (λ q. c .before .before .before .before .before .if2 .left (q ∙ sym (read-first w))) _ (c .before .before .before .if3 .left) (c .count-hops2 .ensures)
+returns-4 c =
+    let a = c .before .before .before .before .before .before .before .before .before .args in
+    let w = now (a .net) in
+    row-route w (a .node) (omega arith) (λ q. c .before .before .before .before .before .if2 .left (q ∙ sym (read-first w))) _
+    (c .before .before .before .if3 .left) (c .count-hops2 .ensures)
 
 pub row-spec : {M : Type 1} → statement M
 row-spec =

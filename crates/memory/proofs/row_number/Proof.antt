@@ -20,7 +20,11 @@ nodes-requires c κs = search needs
 
 returns : tie.Need-returns
 unfolding placeRowNumber nodeFault
-returns c = let a = c .before .before .args in let w = now (a .net) in let h : view w .nodes ≤ a .node = omega arith in rw (le-leb (view w .nodes) (a .node) h)
+returns c =
+    let a = c .before .before .args in
+    let w = now (a .net) in
+    let h : view w .nodes ≤ a .node = omega arith in
+    rw (le-leb (view w .nodes) (a .node) h)
 
 element-copy-out-row-fault : tie.Need-element-copy-out-row-fault
 element-copy-out-row-fault c = search needs
@@ -30,11 +34,23 @@ row-fault-requires c κs = search needs
 
 returns-2 : tie.Need-returns-2
 unfolding placeRowNumber
-returns-2 c = let a = c .before .before .before .before .before .args in let w = now (a .net) in let o = read-first w in let h : a .node < view w .nodes = omega arith in let e : rowFault (view w .nodes) (view w .origin) (a .node) (a .label) (a .predecessor) (a .list) ≡ true = cc in rw (node-free (view w .nodes) (a .node) h, e)
+returns-2 c =
+    let a = c .before .before .before .before .before .args in
+    let w = now (a .net) in
+    let o = read-first w in
+    let h : a .node < view w .nodes = omega arith in
+    let e : rowFault (view w .nodes) (view w .origin) (a .node) (a .label) (a .predecessor) (a .list) ≡ true = cc in
+    rw (node-free (view w .nodes) (a .node) h, e)
 
 returns-3 : tie.Need-returns-3
 unfolding placeRowNumber
-returns-3 c = let a = c .before .before .before .before .before .args in let w = now (a .net) in let o = read-first w in let h : a .node < view w .nodes = omega arith in let e : rowFault (view w .nodes) (view w .origin) (a .node) (a .label) (a .predecessor) (a .list) ≡ false = cc in rw (node-free (view w .nodes) (a .node) h, e)
+returns-3 c =
+    let a = c .before .before .before .before .before .args in
+    let w = now (a .net) in
+    let o = read-first w in
+    let h : a .node < view w .nodes = omega arith in
+    let e : rowFault (view w .nodes) (view w .origin) (a .node) (a .label) (a .predecessor) (a .list) ≡ false = cc in
+    rw (node-free (view w .nodes) (a .node) h, e)
 
 pub row-number-spec : {M : Type 1} → statement M
 row-number-spec =

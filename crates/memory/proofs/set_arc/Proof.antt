@@ -57,7 +57,11 @@ same-length : tie.Need-same-length
 same-length c = search needs
 
 returns : tie.Need-returns
-returns c = let a = c .before .before .before .before .args in let p = c .before .before .before .before .pre in change-words (now (a .net)) (p .0) (a .sender) (a .receiver) (a .cost) (c .kept-list .result) (p .1 .0 .below) (p .1 .1 .below) (c .kept-list .ensures)
+returns c =
+    let a = c .before .before .before .before .args in
+    let p = c .before .before .before .before .pre in
+    change-words (now (a .net)) (p .0) (a .sender) (a .receiver) (a .cost) (c .kept-list .result) (p .1 .0 .below) (p .1 .1 .below)
+    (c .kept-list .ensures)
 
 pub set-arc-spec : {M : Type 1} → statement M
 set-arc-spec =

@@ -20,14 +20,28 @@ returns-3 c = rw (le-ltb _ _ (c .before .before .if1 .left), eq-eqb _ _ (c .befo
 
 returns-4 : tie.Need-returns-4
 unfolding choiceMeans chooseOf wordsFault
-returns-4 c = rw (le-ltb _ _ (c .before .before .before .if1 .left), eq-eqb _ _ (c .before .before .if2 .left), eq-eqb _ _ (c .before .if3 .left), le-leb _ _ (c .if4 .taken))
+returns-4 c =
+    rw (
+      le-ltb _ _ (c .before .before .before .if1 .left),
+      eq-eqb _ _ (c .before .before .if2 .left),
+      eq-eqb _ _
+          (c .before .if3 .left),
+      le-leb _ _ (c .if4 .taken),
+    )
 
 least-offer-requires : tie.Need-least-offer-requires
 least-offer-requires c κs = search needs
 
 returns-5 : tie.Need-returns-5
 unfolding chooseOf wordsFault
-returns-5 c = rw (le-ltb _ _ (c .before .before .before .before .if1 .left), eq-eqb _ _ (c .before .before .before .if2 .left), eq-eqb _ _ (c .before .before .if3 .left), lt-leb _ _ (c .before .if4 .left)) (c .least-offer .ensures)
+returns-5 c =
+    rw (
+      le-ltb _ _ (c .before .before .before .before .if1 .left),
+      eq-eqb _ _ (c .before .before .before .if2 .left),
+      eq-eqb _ _
+          (c .before .before .if3 .left),
+      lt-leb _ _ (c .before .if4 .left),
+    ) (c .least-offer .ensures)
 
 pub choose-spec : {M : Type 1} → statement M
 choose-spec =

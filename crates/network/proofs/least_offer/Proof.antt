@@ -2,22 +2,24 @@
 -- Assumes nothing.
 use borrow.Author.Needs.{needs}
 use native.Mathlib.Omega.{arith}
-use Prim.Native.Nat.{_-_, _<_, _≤_}
-use mathlib.Core.Path.{_≡_, sym, ap, subst, _∙_}
+use Prim.Native.Nat.{_+_, _-_, _<_, _≤_}
+use mathlib.Core.Path.{_≡_, sym, ap, _∙_}
 use borrow.Author.Tests.{lt-ltb}
 use mathlib.Core.Logic.{⊎-elim}
-use lib.ListN.{getD}
+use lib.ListN.{length, getD}
 use denote.Ref.{now}
-use Rattle.network.specs.Round.{offer, winner}
-use Rattle.network.specs.Words.{reports, costsOf, chosen, choiceMeans}
+use Rattle.network.specs.Faults.{maxLabel}
+use Rattle.network.specs.Round.{winner}
+use Rattle.network.specs.Words.{chosen, choiceMeans}
 use Rattle.network.specs.Network.{via}
 use Rattle.ancestors.specs.Ancestors.{put}
-use Rattle.network.proofs.Least.{winnerOf, least-none, least-skip, least-take, least-leave, sum-small, choice-none, choice-some}
+use Rattle.network.proofs.Least.{offers, winnerOf, least-none, least-skip, least-take, least-leave, sum-small, choice-none, choice-some}
 use Rattle.network.proofs.least_offer.Statement.{statement}
 use Rattle.network.proofs.least_offer.Tie as tie
 
 abbrev Inv-loop : tie.InvT-loop
-Inv-loop costs labels lists receiver n best₀ from₀ s₀ best from s = (winner (λ i. offer receiver (costsOf costs i) (reports labels lists i)) s ≡ winnerOf best from) × (best ≤ 2031586) × (best ≤ 2031585 → from < n) × (s ≤ n)
+Inv-loop costs labels lists receiver n best₀ from₀ s₀ best from s =
+    (winner (offers costs labels lists receiver) s ≡ winnerOf best from) × (best ≤ maxLabel + 1) × (best ≤ maxLabel → from < n) × (s ≤ n)
 
 abbrev μ-loop : tie.MeasureT-loop
 μ-loop costs labels lists receiver n best₀ from₀ s₀ best from s = n - s
@@ -62,7 +64,12 @@ loop-less : tie.Need-loop-less Inv-loop μ-loop
 loop-less c = search needs
 
 loop-again : tie.Need-loop-again Inv-loop μ-loop
-loop-again c = let l = c .before .before .before .before .before .before .before .loop in let a = c .before .before .before .before .before .before .before .before .before .before .before .args in (least-skip (λ i. offer (a .receiver) (costsOf (now (a .costs)) i) (reports (now (a .labels)) (now (a .lists)) i)) (l .s) (l .best) (l .from) (l .inv .0) (sym (c .before .before .offer-of .ensures) ∙ c .enum-told .given .1), l .inv .1, l .inv .2, omega arith)
+loop-again c =
+    let l = c .before .before .before .before .before .before .before .loop in
+    let a = c .before .before .before .before .before .before .before .before .before .before .before .args in
+    let f = offers (now (a .costs)) (now (a .labels)) (now (a .lists)) (a .receiver) in
+    let o = sym (c .before .before .offer-of .ensures) ∙ c .enum-told .given .1 in
+    (least-skip f (l .s) (l .best) (l .from) (l .inv .0) o, l .inv .1, l .inv .2, omega arith)
 
 add-s-2 : tie.Need-add-s-2 Inv-loop μ-loop
 add-s-2 c = search needs
@@ -71,11 +78,34 @@ loop-less-2 : tie.Need-loop-less-2 Inv-loop μ-loop
 loop-less-2 c = search needs
 
 loop-again-2 : tie.Need-loop-again-2 Inv-loop μ-loop
-loop-again-2 c = let l = c .before .before .before .before .before .before .before .before .before .loop in let a = c .before .before .before .before .before .before .before .before .before .before .before .before .before .args in let o = sym (c .before .before .before .before .offer-of .ensures) ∙ c .before .before .sum .given .1 in let small = sum-small _ _ _ _ o in ⊎-elim (λ w. (rw (w .1, w .2) (least-take (λ i. offer (a .receiver) (costsOf (now (a .costs)) i) (reports (now (a .labels)) (now (a .lists)) i)) (l .s) (l .best) (l .from) (l .inv .0) _ o small (w .0 .taken)), omega (arith, w .1, small), λ h. omega (arith, w .2), omega arith)) (λ w. (rw (w .1, w .2) (least-leave (λ i. offer (a .receiver) (costsOf (now (a .costs)) i) (reports (now (a .labels)) (now (a .lists)) i)) (l .s) (l .best) (l .from) (l .inv .0) _ o small (w .0 .left)), omega (arith, w .1), λ h. rw (w .2) (l .inv .2 (omega (arith, w .1))), omega arith)) (c .if1 .came)
+loop-again-2 c =
+    let l = c .before .before .before .before .before .before .before .before .before .loop in
+    let a = c .before .before .before .before .before .before .before .before .before .before .before .before .before .args in
+    let f = offers (now (a .costs)) (now (a .labels)) (now (a .lists)) (a .receiver) in
+    let o = sym (c .before .before .before .before .offer-of .ensures) ∙ c .before .before .sum .given .1 in
+    let small = sum-small _ _ _ _ o in
+    ⊎-elim
+    (λ w. (
+      rw (w .1, w .2) (least-take f (l .s) (l .best) (l .from) (l .inv .0) _ o small (w .0 .taken)),
+      omega (arith, w .1, small),
+      λ h. omega (arith, w .2),
+      omega arith,
+    ))
+    (λ w. (
+      rw (w .1, w .2) (least-leave f (l .s) (l .best) (l .from) (l .inv .0) _ o small (w .0 .left)),
+      omega (arith, w .1),
+      λ h. rw (w .2) (l .inv .2 (omega (arith, w .1))),
+      omega arith,
+    ))
+    (c .if1 .came)
 
 returns : tie.Need-returns Inv-loop μ-loop
 unfolding choiceMeans
-returns c = let l = c .before .before .loop in let a = c .before .before .before .before .before .before .args in ap chosen (sym (choice-none (now (a .costs)) (now (a .labels)) (now (a .lists)) (a .receiver) (l .best) (l .from) (subst (λ k. winner (λ i. offer (a .receiver) (costsOf (now (a .costs)) i) (reports (now (a .labels)) (now (a .lists)) i)) k ≡ winnerOf (l .best) (l .from)) (omega (arith, l .inv .3)) (l .inv .0)) (c .if2 .taken)))
+returns c =
+    let l = c .before .before .loop in
+    let a = c .before .before .before .before .before .before .args in
+    let all : l .s ≡ length (now (a .costs)) = omega arith in
+    ap chosen (sym (choice-none (now (a .costs)) (now (a .labels)) (now (a .lists)) (a .receiver) (l .s) (l .best) (l .from) all (l .inv .0) (c .if2 .taken)))
 
 cast-t22 : tie.Need-cast-t22 Inv-loop μ-loop
 cast-t22 c = omega (arith, c .before .before .loop .inv .2 (c .if2 .left), c .before .before .before .before .before .before .pre)
@@ -84,14 +114,26 @@ mul-joined : tie.Need-mul-joined Inv-loop μ-loop
 mul-joined c = omega (arith, c .before .before .loop .inv .2 (c .if2 .left), c .before .before .before .before .before .before .pre)
 
 shared-slice-read-joined : tie.Need-shared-slice-read-joined Inv-loop μ-loop
-shared-slice-read-joined c = omega (arith, c .before .before .before .loop .inv .2 (c .before .if2 .left), c .before .before .before .before .before .before .before .pre)
+shared-slice-read-joined c =
+    omega (
+      arith,
+      c .before .before .before .loop .inv .2 (c .before .if2 .left),
+      c .before .before .before .before .before .before .before .pre,
+    )
 
 joined-requires : tie.Need-joined-requires Inv-loop μ-loop
 joined-requires c κs = search needs
 
 returns-2 : tie.Need-returns-2 Inv-loop μ-loop
 unfolding choiceMeans
-returns-2 c = let l = c .before .before .before .before .loop in let a = c .before .before .before .before .before .before .before .before .args in let j : c .joined .result ≡ put (getD (now (a .lists)) (l .from) 0) (a .receiver) = c .joined .ensures ∙ rw (lt-ltb _ _ (c .before .before .before .before .before .before .before .before .pre .1 .1 .1)) in ap (λ k. chosen (via (l .best) (l .from) k)) j ∙ ap chosen (sym (choice-some (now (a .costs)) (now (a .labels)) (now (a .lists)) (a .receiver) (l .best) (l .from) (subst (λ k. winner (λ i. offer (a .receiver) (costsOf (now (a .costs)) i) (reports (now (a .labels)) (now (a .lists)) i)) k ≡ winnerOf (l .best) (l .from)) (omega (arith, l .inv .3)) (l .inv .0)) (c .before .before .if2 .left)))
+returns-2 c =
+    let l = c .before .before .before .before .loop in
+    let a = c .before .before .before .before .before .before .before .before .args in
+    let all : l .s ≡ length (now (a .costs)) = omega arith in
+    let j : c .joined .result ≡ put (getD (now (a .lists)) (l .from) 0) (a .receiver) =
+    c .joined .ensures ∙ rw (lt-ltb (a .receiver) 32 (omega arith)) in
+    ap (λ k. chosen (via (l .best) (l .from) k)) j
+    ∙ ap chosen (sym (choice-some (now (a .costs)) (now (a .labels)) (now (a .lists)) (a .receiver) (l .s) (l .best) (l .from) all (l .inv .0) (c .before .before .if2 .left)))
 
 pub least-offer-spec : {M : Type 1} → statement M
 least-offer-spec =

@@ -27,7 +27,9 @@ cast-t8 : tie.Need-cast-t8
 cast-t8 c = search needs
 
 returns-4 : tie.Need-returns-4
-returns-4 c = ap Sum (c .before .total .ensures) ∙ offer-sum _ _ _ _ (c .before .before .before .before .if1 .left) (sym (c .before .before .before .listed .ensures) ∙ c .before .before .if2 .left) (omega (arith, c .before .total .ensures))
+returns-4 c =
+    ap Sum (c .before .total .ensures) ∙ offer-sum _ _ _ _ (c .before .before .before .before .if1 .left) (sym
+    (c .before .before .before .listed .ensures) ∙ c .before .before .if2 .left) (omega (arith, c .before .total .ensures))
 
 pub offer-of-spec : {M : Type 1} → statement M
 offer-of-spec =

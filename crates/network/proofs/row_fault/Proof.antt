@@ -20,18 +20,42 @@ returns-3 c = rw (ne-eqb _ _ (c .before .before .if1 .left), ne-eqb _ _ (c .befo
 
 returns-4 : tie.Need-returns-4
 unfolding rowFault originFault rowLabelFault predecessorFault
-returns-4 c = rw (ne-eqb _ _ (c .before .before .before .if1 .left), ne-eqb _ _ (c .before .before .if2 .left), le-ltb _ _ (c .before .if3 .left), le-leb _ _ (c .if4 .taken))
+returns-4 c =
+    rw (
+      ne-eqb _ _ (c .before .before .before .if1 .left),
+      ne-eqb _ _ (c .before .before .if2 .left),
+      le-ltb _ _
+          (c .before .if3 .left),
+      le-leb _ _ (c .if4 .taken),
+    )
 
 returns-5 : tie.Need-returns-5
 unfolding rowFault originFault rowLabelFault predecessorFault
-returns-5 c = rw (ne-eqb _ _ (c .before .before .before .before .if1 .left), ne-eqb _ _ (c .before .before .before .if2 .left), le-ltb _ _ (c .before .before .if3 .left), lt-leb _ _ (c .before .if4 .left), eq-eqb _ _ (c .if5 .taken))
+returns-5 c =
+    rw (
+      ne-eqb _ _ (c .before .before .before .before .if1 .left),
+      ne-eqb _ _ (c .before .before .before .if2 .left),
+      le-ltb _ _
+          (c .before .before .if3 .left),
+      lt-leb _ _ (c .before .if4 .left),
+      eq-eqb _ _ (c .if5 .taken),
+    )
 
 list-fault-requires : tie.Need-list-fault-requires
 list-fault-requires c κs = search needs
 
 returns-6 : tie.Need-returns-6
 unfolding rowFault originFault rowLabelFault predecessorFault
-returns-6 c = rw (ne-eqb _ _ (c .before .before .before .before .before .if1 .left), ne-eqb _ _ (c .before .before .before .before .if2 .left), le-ltb _ _ (c .before .before .before .if3 .left), lt-leb _ _ (c .before .before .if4 .left), ne-eqb _ _ (c .before .if5 .left)) (c .list-fault .ensures)
+returns-6 c =
+    rw (
+      ne-eqb _ _ (c .before .before .before .before .before .if1 .left),
+      ne-eqb _ _
+          (c .before .before .before .before .if2 .left),
+      le-ltb _ _ (c .before .before .before .if3 .left),
+      lt-leb _ _
+          (c .before .before .if4 .left),
+      ne-eqb _ _ (c .before .if5 .left),
+    ) (c .list-fault .ensures)
 
 pub row-fault-spec : {M : Type 1} → statement M
 row-fault-spec =

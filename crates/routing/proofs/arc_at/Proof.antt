@@ -24,7 +24,9 @@ shared-slice-read-result : tie.Need-shared-slice-read-result
 shared-slice-read-result c = search needs
 
 returns : tie.Need-returns
-returns c = ap (ltb 0) (read-cost (now (c .before .args .net)) (c .before .args .sender) (c .before .args .receiver) (c .before .pre .1 .0 .below) (c .before .pre .1 .1 .below))
+returns c =
+    ap (ltb 0) (read-cost (now (c .before .args .net)) (c .before .args .sender) (c .before .args .receiver)
+    (c .before .pre .1 .0 .below) (c .before .pre .1 .1 .below))
 
 pub arc-at-spec : {M : Type 1} → statement M
 arc-at-spec =

@@ -77,7 +77,10 @@ choose-requires : tie.Need-choose-requires
 choose-requires c κs = search needs
 
 returns : tie.Need-returns
-returns c = let a = c .before .before .before .before .before .args in let p = c .before .before .before .before .before .pre in c .choose .ensures ∙ choose-words (now (a .net)) (p .0) (a .n) (a .receiver) (p .1 .0 .is) (p .1 .1 .below)
+returns c =
+    let a = c .before .before .before .before .before .args in
+    let p = c .before .before .before .before .before .pre in
+    c .choose .ensures ∙ choose-words (now (a .net)) (p .0) (a .n) (a .receiver) (p .1 .0 .is) (p .1 .1 .below)
 
 pub choose-row-spec : {M : Type 1} → statement M
 choose-row-spec =

@@ -15,16 +15,42 @@ cast-n : tie.Need-cast-n
 cast-n c = search needs
 
 prime-requires : tie.Need-prime-requires
-prime-requires c κs = let a = c .before .before .before .args in let w = now (a .net) in (search needs, nodes-count w (c .before .nodes .result) (c .before .nodes .ensures))
+prime-requires c κs =
+    let a = c .before .before .before .args in
+    let w = now (a .net) in
+    (search needs, nodes-count w (c .before .nodes .result) (c .before .nodes .ensures))
 
 hear-arcs-requires : tie.Need-hear-arcs-requires
-hear-arcs-requires c κs = let a = c .before .before .before .before .before .args in let w = now (a .net) in (search needs, (c .before .prime .ensures .primed, nodes-same w (c .before .prime .last .0) (c .before .before .before .nodes .result) (c .before .prime .ensures) (c .before .before .before .nodes .ensures)))
+hear-arcs-requires c κs =
+    let a = c .before .before .before .before .before .args in
+    let w = now (a .net) in (
+      search needs,
+      (
+        c .before .prime .ensures .primed,
+        nodes-same w (c .before .prime .last .0)
+            (c .before .before .before .nodes .result) (c .before .prime .ensures) (c .before .before .before .nodes .ensures),
+      ),
+    )
 
 renew-rows-requires : tie.Need-renew-rows-requires
-renew-rows-requires c κs = let a = c .before .before .before .before .before .before .before .args in let w = now (a .net) in let n = c .before .before .before .before .before .nodes in let k = nodes-same w (c .before .before .before .prime .last .0) (n .result) (c .before .before .before .prime .ensures) (n .ensures) in (search needs, nodes-kept _ (view (c .before .before .before .prime .last .0)) (c .before .hear-arcs .last .0) (n .result) (c .before .hear-arcs .ensures) (k .is))
+renew-rows-requires c κs =
+    let a = c .before .before .before .before .before .before .before .args in
+    let w = now (a .net) in
+    let n = c .before .before .before .before .before .nodes in
+    let k = nodes-same w (c .before .before .before .prime .last .0) (n .result) (c .before .before .before .prime .ensures)
+    (n .ensures) in (
+      search needs,
+      nodes-kept _ (view (c .before .before .before .prime .last .0)) (c .before .hear-arcs .last .0) (n .result)
+          (c .before .hear-arcs .ensures) (k .is),
+    )
 
 returns : tie.Need-returns
-returns c = let a = c .before .before .before .before .before .before .before .before .args in let w = now (a .net) in full-round-done w (c .before .before .before .before .prime .last .0) (c .before .before .hear-arcs .last .0) (c .renew-rows .last .0) (c .before .before .before .before .prime .ensures) (c .before .before .hear-arcs .ensures) (c .renew-rows .ensures)
+returns c =
+    let a = c .before .before .before .before .before .before .before .before .args in
+    let w = now (a .net) in
+    full-round-done w (c .before .before .before .before .prime .last .0) (c .before .before .hear-arcs .last .0)
+    (c .renew-rows .last .0) (c .before .before .before .before .prime .ensures) (c .before .before .hear-arcs .ensures)
+    (c .renew-rows .ensures)
 
 pub full-round-spec : {M : Type 1} → statement M
 full-round-spec =

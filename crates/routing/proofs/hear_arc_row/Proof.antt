@@ -22,13 +22,45 @@ abbrev μ-loop : tie.MeasureT-loop
 μ-loop net₀ n receiver s₀ net s = n - s
 
 loop-holds : tie.Need-loop-holds Inv-loop μ-loop
-loop-holds c = let a = c .before .args in let p = c .before .pre in (hears-first (arcRow (view (now (a .net))) (a .receiver) 0) (now (a .net)) (p .1 .0) (arc-row-none (view (now (a .net))) (a .receiver)), p .0, search needs)
+loop-holds c =
+    let a = c .before .args in
+    let p = c .before .pre in (
+      hears-first (arcRow (view (now (a .net))) (a .receiver) 0) (now (a .net)) (p .1 .0)
+          (arc-row-none (view (now (a .net))) (a .receiver)),
+      p .0,
+      search needs,
+    )
 
 arc-at-requires : tie.Need-arc-at-requires Inv-loop μ-loop
-arc-at-requires c κs = let l = c .before .before .before .loop in let a = c .before .before .before .before .before .args in let p = c .before .before .before .before .before .pre in let x = view (now (a .net)) in (l .inv .1, (node-kept _ x _ (l .s) (l .inv .0) (omega (arith, p .1 .1 .0 .is)), node-kept _ x _ (a .receiver) (l .inv .0) (p .1 .1 .1 .below)))
+arc-at-requires c κs =
+    let l = c .before .before .before .loop in
+    let a = c .before .before .before .before .before .args in
+    let p = c .before .before .before .before .before .pre in
+    let x = view (now (a .net)) in (
+      l .inv .1,
+      (
+        node-kept _ x _ (l .s) (l .inv .0) (omega (arith, p .1 .1 .0 .is)),
+        node-kept _ x _ (a .receiver) (l .inv .0)
+            (p .1 .1 .1 .below),
+      ),
+    )
 
 hear-arc-requires : tie.Need-hear-arc-requires Inv-loop μ-loop
-hear-arc-requires c κs = let l = c .before .before .before .before .loop in let a = c .before .before .before .before .before .before .args in let p = c .before .before .before .before .before .before .pre in let x = view (now (a .net)) in (l .inv .1, (l .inv .0 .primed, (node-kept _ x _ (l .s) (l .inv .0) (omega (arith, p .1 .1 .0 .is)), node-kept _ x _ (a .receiver) (l .inv .0) (p .1 .1 .1 .below))))
+hear-arc-requires c κs =
+    let l = c .before .before .before .before .loop in
+    let a = c .before .before .before .before .before .before .args in
+    let p = c .before .before .before .before .before .before .pre in
+    let x = view (now (a .net)) in (
+      l .inv .1,
+      (
+        l .inv .0 .primed,
+        (
+          node-kept _ x _ (l .s) (l .inv .0) (omega (arith, p .1 .1 .0 .is)),
+          node-kept _ x _
+              (a .receiver) (l .inv .0) (p .1 .1 .1 .below),
+        ),
+      ),
+    )
 
 add-s : tie.Need-add-s Inv-loop μ-loop
 add-s c = search needs
@@ -37,13 +69,36 @@ loop-less : tie.Need-loop-less Inv-loop μ-loop
 loop-less c = search needs
 
 loop-again : tie.Need-loop-again Inv-loop μ-loop
-loop-again c = let l = c .before .before .before .before .before .before .before .loop in let a = c .before .before .before .before .before .before .before .before .before .args in let p = c .before .before .before .before .before .before .before .before .before .pre in let x = view (now (a .net)) in (hears-next (arcRow x (a .receiver) (l .s)) (oneMark (l .s) (a .receiver) (ltb 0 (x .cost (l .s) (a .receiver)))) (arcRow x (a .receiver) (l .s + 1)) x (l .net) (c .before .before .hear-arc .last .0) (l .inv .0 .net) (subst (λ t. Hears (c .before .before .hear-arc .last .0) (hear (oneMark (l .s) (a .receiver) t) (view (l .net)))) (c .before .before .before .arc-at .ensures ∙ ap (λ (z : Net). ltb 0 (z .cost (l .s) (a .receiver))) (l .inv .0 .net) ∙ ap (λ f. ltb 0 (f (l .s) (a .receiver))) (hear-cost (arcRow x (a .receiver) (l .s)) x)) (c .before .before .hear-arc .ensures)) (arc-row-step x (a .receiver) (l .s)), c .before .before .hear-arc .kept .0 ∙ l .inv .1, omega arith)
+loop-again c =
+    let l = c .before .before .before .before .before .before .before .loop in
+    let a = c .before .before .before .before .before .before .before .before .before .args in
+    let p = c .before .before .before .before .before .before .before .before .before .pre in
+    let x = view (now (a .net)) in (
+      hears-next (arcRow x (a .receiver) (l .s)) (oneMark (l .s) (a .receiver) (ltb 0 (x .cost (l .s) (a .receiver))))
+          (arcRow x (a .receiver) (l .s + 1)) x (l .net) (c .before .before .hear-arc .last .0) (l .inv .0 .net) (subst (λ t. Hears
+          (c .before .before .hear-arc .last .0) (hear (oneMark (l .s) (a .receiver) t) (view (l .net))))
+          (c .before .before .before .arc-at .ensures ∙ ap (λ (z : Net). ltb 0 (z .cost (l .s) (a .receiver))) (l .inv .0 .net) ∙ ap
+          (λ f. ltb 0 (f (l .s) (a .receiver))) (hear-cost (arcRow x (a .receiver) (l .s)) x)) (c .before .before .hear-arc .ensures))
+          (arc-row-step x (a .receiver) (l .s)),
+      c .before .before .hear-arc .kept .0 ∙ l .inv .1,
+      omega arith,
+    )
 
 same-length : tie.Need-same-length Inv-loop μ-loop
-same-length c = let l = c .before .loop in let a = c .before .before .before .args in let p = c .before .before .before .pre in let x = view (now (a .net)) in l .inv .1 ∙ sym (p .0)
+same-length c =
+    let l = c .before .loop in
+    let a = c .before .before .before .args in
+    let p = c .before .before .before .pre in
+    let x = view (now (a .net)) in
+    l .inv .1 ∙ sym (p .0)
 
 returns : tie.Need-returns Inv-loop μ-loop
-returns c = let l = c .before .loop in let a = c .before .before .before .args in let p = c .before .before .before .pre in let x = view (now (a .net)) in subst (λ k. Hears (l .net) (hear (arcRow x (a .receiver) k) x)) (omega arith) (l .inv .0)
+returns c =
+    let l = c .before .loop in
+    let a = c .before .before .before .args in
+    let p = c .before .before .before .pre in
+    let x = view (now (a .net)) in
+    subst (λ k. Hears (l .net) (hear (arcRow x (a .receiver) k) x)) (omega arith) (l .inv .0)
 
 pub hear-arc-row-spec : {M : Type 1} → statement M
 hear-arc-row-spec =

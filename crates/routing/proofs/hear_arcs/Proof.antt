@@ -20,10 +20,27 @@ abbrev μ-loop : tie.MeasureT-loop
 μ-loop net₀ n r₀ net r = n - r
 
 loop-holds : tie.Need-loop-holds Inv-loop μ-loop
-loop-holds c = let a = c .before .args in let p = c .before .pre in (hears-first (arcMarks (view (now (a .net))) 0) (now (a .net)) (p .1 .0) (arcs-none (view (now (a .net)))), p .0, search needs)
+loop-holds c =
+    let a = c .before .args in
+    let p = c .before .pre in
+    (hears-first (arcMarks (view (now (a .net))) 0) (now (a .net)) (p .1 .0) (arcs-none (view (now (a .net)))), p .0, search needs)
 
 hear-arc-row-requires : tie.Need-hear-arc-row-requires Inv-loop μ-loop
-hear-arc-row-requires c κs = let l = c .before .before .loop in let a = c .before .before .before .before .args in let p = c .before .before .before .before .pre in let x = view (now (a .net)) in (l .inv .1, (l .inv .0 .primed, (nodes-kept _ x _ (a .n) (l .inv .0) (p .1 .1 .is), node-kept _ x _ (l .r) (l .inv .0) (omega (arith, p .1 .1 .is)))))
+hear-arc-row-requires c κs =
+    let l = c .before .before .loop in
+    let a = c .before .before .before .before .args in
+    let p = c .before .before .before .before .pre in
+    let x = view (now (a .net)) in (
+      l .inv .1,
+      (
+        l .inv .0 .primed,
+        (
+          nodes-kept _ x _ (a .n) (l .inv .0) (p .1 .1 .is),
+          node-kept _ x _ (l .r) (l .inv .0)
+              (omega (arith, p .1 .1 .is)),
+        ),
+      ),
+    )
 
 add-r : tie.Need-add-r Inv-loop μ-loop
 add-r c = search needs
@@ -32,13 +49,33 @@ loop-less : tie.Need-loop-less Inv-loop μ-loop
 loop-less c = search needs
 
 loop-again : tie.Need-loop-again Inv-loop μ-loop
-loop-again c = let l = c .before .before .before .before .before .loop in let a = c .before .before .before .before .before .before .before .args in let p = c .before .before .before .before .before .before .before .pre in let x = view (now (a .net)) in (arcs-next (now (a .net)) (l .net) (c .before .before .hear-arc-row .last .0) (l .r) (a .n) (p .1 .1 .is) (l .inv .0 .net) (c .before .before .hear-arc-row .ensures), c .before .before .hear-arc-row .kept .0 ∙ l .inv .1, omega arith)
+loop-again c =
+    let l = c .before .before .before .before .before .loop in
+    let a = c .before .before .before .before .before .before .before .args in
+    let p = c .before .before .before .before .before .before .before .pre in
+    let x = view (now (a .net)) in (
+      arcs-next (now (a .net)) (l .net) (c .before .before .hear-arc-row .last .0) (l .r) (a .n) (p .1 .1 .is) (l .inv .0 .net)
+          (c .before .before .hear-arc-row .ensures),
+      c .before .before .hear-arc-row .kept .0 ∙ l .inv .1,
+      omega arith,
+    )
 
 same-length : tie.Need-same-length Inv-loop μ-loop
-same-length c = let l = c .before .loop in let a = c .before .before .before .args in let p = c .before .before .before .pre in let x = view (now (a .net)) in l .inv .1 ∙ sym (p .0)
+same-length c =
+    let l = c .before .loop in
+    let a = c .before .before .before .args in
+    let p = c .before .before .before .pre in
+    let x = view (now (a .net)) in
+    l .inv .1 ∙ sym (p .0)
 
 returns : tie.Need-returns Inv-loop μ-loop
-returns c = let l = c .before .loop in let a = c .before .before .before .args in let p = c .before .before .before .pre in let x = view (now (a .net)) in record { net = l .inv .0 .net ∙ hear-ext _ _ x (λ s r. ap (λ k. arcMarks x k s r) (omega (arith, p .1 .1 .is)) ∙ arcs-all (now (a .net)) s r); primed = l .inv .0 .primed }
+returns c =
+    let l = c .before .loop in
+    let a = c .before .before .before .args in
+    let p = c .before .before .before .pre in
+    let x = view (now (a .net)) in
+    record
+    { net = l .inv .0 .net ∙ hear-ext _ _ x (λ s r. ap (λ k. arcMarks x k s r) (omega (arith, p .1 .1 .is)) ∙ arcs-all (now (a .net)) s r); primed = l .inv .0 .primed }
 
 pub hear-arcs-spec : {M : Type 1} → statement M
 hear-arcs-spec =

@@ -21,7 +21,14 @@ abbrev μ-loop : tie.MeasureT-loop
 μ-loop net₀ n receiver word s₀ net s = n - s
 
 loop-holds : tie.Need-loop-holds Inv-loop μ-loop
-loop-holds c = let a = c .before .args in let p = c .before .pre in (hears-first (rowMarks (a .receiver) (a .word) 0) (now (a .net)) (p .1 .0) (row-none (a .receiver) (a .word)), p .0, search needs)
+loop-holds c =
+    let a = c .before .args in
+    let p = c .before .pre in (
+      hears-first (rowMarks (a .receiver) (a .word) 0) (now (a .net)) (p .1 .0) (row-none (a .receiver) (a .word)),
+      p .0,
+      search
+          needs,
+    )
 
 cast-listed : tie.Need-cast-listed Inv-loop μ-loop
 cast-listed c = omega (arith, c .before .before .before .before .pre)
@@ -30,7 +37,21 @@ listed-requires : tie.Need-listed-requires Inv-loop μ-loop
 listed-requires c κs = search needs
 
 hear-arc-requires : tie.Need-hear-arc-requires Inv-loop μ-loop
-hear-arc-requires c κs = let l = c .before .before .before .loop in let a = c .before .before .before .before .before .args in let p = c .before .before .before .before .before .pre in let x = view (now (a .net)) in (l .inv .1, (l .inv .0 .primed, (node-kept _ x _ (l .s) (l .inv .0) (omega (arith, p .1 .1 .0 .is)), node-kept _ x _ (a .receiver) (l .inv .0) (p .1 .1 .1 .below))))
+hear-arc-requires c κs =
+    let l = c .before .before .before .loop in
+    let a = c .before .before .before .before .before .args in
+    let p = c .before .before .before .before .before .pre in
+    let x = view (now (a .net)) in (
+      l .inv .1,
+      (
+        l .inv .0 .primed,
+        (
+          node-kept _ x _ (l .s) (l .inv .0) (omega (arith, p .1 .1 .0 .is)),
+          node-kept _ x _
+              (a .receiver) (l .inv .0) (p .1 .1 .1 .below),
+        ),
+      ),
+    )
 
 add-s : tie.Need-add-s Inv-loop μ-loop
 add-s c = search needs
@@ -39,13 +60,35 @@ loop-less : tie.Need-loop-less Inv-loop μ-loop
 loop-less c = search needs
 
 loop-again : tie.Need-loop-again Inv-loop μ-loop
-loop-again c = let l = c .before .before .before .before .before .before .loop in let a = c .before .before .before .before .before .before .before .before .args in let p = c .before .before .before .before .before .before .before .before .pre in let x = view (now (a .net)) in (hears-next (rowMarks (a .receiver) (a .word) (l .s)) (oneMark (l .s) (a .receiver) (has (a .word) (l .s))) (rowMarks (a .receiver) (a .word) (l .s + 1)) x (l .net) (c .before .before .hear-arc .last .0) (l .inv .0 .net) (subst (λ t. Hears (c .before .before .hear-arc .last .0) (hear (oneMark (l .s) (a .receiver) t) (view (l .net)))) (c .before .before .before .listed .ensures) (c .before .before .hear-arc .ensures)) (row-step (a .receiver) (a .word) (l .s)), c .before .before .hear-arc .kept .0 ∙ l .inv .1, omega arith)
+loop-again c =
+    let l = c .before .before .before .before .before .before .loop in
+    let a = c .before .before .before .before .before .before .before .before .args in
+    let p = c .before .before .before .before .before .before .before .before .pre in
+    let x = view (now (a .net)) in (
+      hears-next (rowMarks (a .receiver) (a .word) (l .s)) (oneMark (l .s) (a .receiver) (has (a .word) (l .s)))
+          (rowMarks (a .receiver) (a .word) (l .s + 1)) x (l .net) (c .before .before .hear-arc .last .0) (l .inv .0 .net) (subst
+          (λ t. Hears (c .before .before .hear-arc .last .0) (hear (oneMark (l .s) (a .receiver) t) (view (l .net))))
+          (c .before .before .before .listed .ensures) (c .before .before .hear-arc .ensures))
+          (row-step (a .receiver) (a .word) (l .s)),
+      c .before .before .hear-arc .kept .0 ∙ l .inv .1,
+      omega arith,
+    )
 
 same-length : tie.Need-same-length Inv-loop μ-loop
-same-length c = let l = c .before .loop in let a = c .before .before .before .args in let p = c .before .before .before .pre in let x = view (now (a .net)) in l .inv .1 ∙ sym (p .0)
+same-length c =
+    let l = c .before .loop in
+    let a = c .before .before .before .args in
+    let p = c .before .before .before .pre in
+    let x = view (now (a .net)) in
+    l .inv .1 ∙ sym (p .0)
 
 returns : tie.Need-returns Inv-loop μ-loop
-returns c = let l = c .before .loop in let a = c .before .before .before .args in let p = c .before .before .before .pre in let x = view (now (a .net)) in subst (λ k. Hears (l .net) (hear (rowMarks (a .receiver) (a .word) k) x)) (omega arith) (l .inv .0)
+returns c =
+    let l = c .before .loop in
+    let a = c .before .before .before .args in
+    let p = c .before .before .before .pre in
+    let x = view (now (a .net)) in
+    subst (λ k. Hears (l .net) (hear (rowMarks (a .receiver) (a .word) k) x)) (omega arith) (l .inv .0)
 
 pub hear-row-spec : {M : Type 1} → statement M
 hear-row-spec =

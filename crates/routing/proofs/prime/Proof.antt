@@ -53,10 +53,19 @@ same-length : tie.Need-same-length
 same-length c = search needs
 
 returns : tie.Need-returns
-returns c = let a = c .before .before .before .before .args in let w = now (a .net) in let p = c .before .before .before .before .pre in let h : look w 1 < view w .nodes = omega (arith, p .1 .is) in primes w (p .0) (look w 1) (c .joined .result) (read-first w) h (c .joined .ensures ∙ rw (lt-ltb (look w 1) 32 (omega (arith, few w))))
+returns c =
+    let a = c .before .before .before .before .args in
+    let w = now (a .net) in
+    let p = c .before .before .before .before .pre in
+    let h : look w 1 < view w .nodes = omega (arith, p .1 .is) in
+    primes w (p .0) (look w 1) (c .joined .result) (read-first w) h (c .joined .ensures ∙ rw
+    (lt-ltb (look w 1) 32 (omega (arith, few w))))
 
 returns-2 : tie.Need-returns-2
-returns-2 c = let a = c .before .before .before .args in let w = now (a .net) in unprimed w (omega (arith, c .before .before .before .pre .1 .is, read-first w))
+returns-2 c =
+    let a = c .before .before .before .args in
+    let w = now (a .net) in
+    unprimed w (omega (arith, c .before .before .before .pre .1 .is, read-first w))
 
 pub prime-spec : {M : Type 1} → statement M
 prime-spec =

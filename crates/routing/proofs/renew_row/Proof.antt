@@ -35,19 +35,37 @@ same-length : tie.Need-same-length
 same-length c = search needs
 
 returns : tie.Need-returns
-returns c = let a = c .before .before .before .before .before .before .before .before .before .before .args in let x = view (now (a .net)) in c .before .before .store-row .ensures ∙ ap (withRow x (a .receiver)) (route-words (a .n) (λ s. x .cost s (a .receiver)) (λ s. x .held s (a .receiver)) (a .receiver) (c .before .before .before .before .before .before .before .choose-row .result) (c .before .before .before .before .before .before .before .choose-row .ensures) _ _ _ (c .before .before .before .before .before .row .given .1))
+returns c =
+    let a = c .before .before .before .before .before .before .before .before .before .before .args in
+    let x = view (now (a .net)) in
+    c .before .before .store-row .ensures ∙ ap (withRow x (a .receiver)) (route-words (a .n) (λ s. x .cost s (a .receiver))
+    (λ s. x .held s (a .receiver)) (a .receiver) (c .before .before .before .before .before .before .before .choose-row .result)
+    (c .before .before .before .before .before .before .before .choose-row .ensures) _ _ _
+    (c .before .before .before .before .before .row .given .1))
 
 same-length-2 : tie.Need-same-length-2
 same-length-2 c = search needs
 
 returns-2 : tie.Need-returns-2
-returns-2 c = let a = c .before .before .before .before .before .before .before .before .before .args in let x = view (now (a .net)) in c .before .before .store-row2 .ensures ∙ ap (withRow x (a .receiver)) (no-route-words (a .n) (λ s. x .cost s (a .receiver)) (λ s. x .held s (a .receiver)) (a .receiver) (c .before .before .before .before .before .before .choose-row .result) (c .before .before .before .before .before .before .choose-row .ensures) (c .before .before .before .before .enum-told .given .1))
+returns-2 c =
+    let a = c .before .before .before .before .before .before .before .before .before .args in
+    let x = view (now (a .net)) in
+    c .before .before .store-row2 .ensures ∙ ap (withRow x (a .receiver)) (no-route-words (a .n) (λ s. x .cost s (a .receiver))
+    (λ s. x .held s (a .receiver)) (a .receiver) (c .before .before .before .before .before .before .choose-row .result)
+    (c .before .before .before .before .before .before .choose-row .ensures)
+    (c .before .before .before .before .enum-told .given .1))
 
 same-length-3 : tie.Need-same-length-3
 same-length-3 c = search needs
 
 returns-3 : tie.Need-returns-3
-returns-3 c = let a = c .before .before .before .before .before .before .before .before .before .args in let x = view (now (a .net)) in c .before .before .store-row3 .ensures ∙ ap (withRow x (a .receiver)) (refused-words (a .n) (λ s. x .cost s (a .receiver)) (λ s. x .held s (a .receiver)) (a .receiver) (c .before .before .before .before .before .before .choose-row .result) (c .before .before .before .before .before .before .choose-row .ensures) (c .before .before .before .before .enum-told2 .given .1))
+returns-3 c =
+    let a = c .before .before .before .before .before .before .before .before .before .args in
+    let x = view (now (a .net)) in
+    c .before .before .store-row3 .ensures ∙ ap (withRow x (a .receiver)) (refused-words (a .n) (λ s. x .cost s (a .receiver))
+    (λ s. x .held s (a .receiver)) (a .receiver) (c .before .before .before .before .before .before .choose-row .result)
+    (c .before .before .before .before .before .before .choose-row .ensures)
+    (c .before .before .before .before .enum-told2 .given .1))
 
 pub renew-row-spec : {M : Type 1} → statement M
 renew-row-spec =

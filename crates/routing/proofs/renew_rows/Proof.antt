@@ -30,7 +30,23 @@ loop-holds : tie.Need-loop-holds Inv-loop μ-loop
 loop-holds c = let a = c .before .before .args in (renewed-none (view (now (a .net))), c .before .before .pre .0, search needs)
 
 renew-row-requires : tie.Need-renew-row-requires Inv-loop μ-loop
-renew-row-requires c κs = let l = c .before .before .before .loop in let a = c .before .before .before .before .before .before .args in let p = c .before .before .before .before .before .before .pre in let x = view (now (a .net)) in let w = now (a .net) in (l .inv .1, (renewing-nodes w (l .net) (l .r) (l .inv .0) (a .n) (p .1 .is), (renewing-node w (l .net) (l .r) (l .inv .0) (l .r) (omega (arith, p .1 .is)), λ e. c .before .if1 .taken (e ∙ renewing-origin w (l .net) (l .r) (l .inv .0) ∙ sym (read-first w)))))
+renew-row-requires c κs =
+    let l = c .before .before .before .loop in
+    let a = c .before .before .before .before .before .before .args in
+    let p = c .before .before .before .before .before .before .pre in
+    let x = view (now (a .net)) in
+    let w = now (a .net) in (
+      l .inv .1,
+      (
+        renewing-nodes w (l .net) (l .r) (l .inv .0) (a .n) (p .1 .is),
+        (
+          renewing-node w (l .net) (l .r) (l .inv .0) (l .r)
+              (omega (arith, p .1 .is)),
+          λ e. c .before .if1 .taken (e ∙ renewing-origin w (l .net) (l .r) (l .inv .0) ∙ sym
+              (read-first w)),
+        ),
+      ),
+    )
 
 add-r : tie.Need-add-r Inv-loop μ-loop
 add-r c = search needs
@@ -39,13 +55,40 @@ loop-less : tie.Need-loop-less Inv-loop μ-loop
 loop-less c = search needs
 
 loop-again : tie.Need-loop-again Inv-loop μ-loop
-loop-again c = let l = c .before .before .loop in let a = c .before .before .before .before .before .args in let p = c .before .before .before .before .before .pre in let x = view (now (a .net)) in let w = now (a .net) in ⊎-elim (λ v. (ap view (v .5) ∙ renewing-next w (l .net) (l .r) (l .inv .0) (v .2 .last .0) (a .n) (p .1 .is) (λ e. v .0 .taken (e ∙ sym (read-first w))) (v .2 .ensures), ap length (v .5) ∙ v .2 .kept .0 ∙ l .inv .1, omega arith)) (λ v. (ap view (v .1) ∙ l .inv .0 ∙ renewed-origin x (l .r) (v .0 .left ∙ read-first w), ap length (v .1) ∙ l .inv .1, omega arith)) (c .if1 .came)
+loop-again c =
+    let l = c .before .before .loop in
+    let a = c .before .before .before .before .before .args in
+    let p = c .before .before .before .before .before .pre in
+    let x = view (now (a .net)) in
+    let w = now (a .net) in
+    ⊎-elim (λ v. (
+      ap view (v .5) ∙ renewing-next w (l .net) (l .r) (l .inv .0) (v .2 .last .0) (a .n) (p .1 .is)
+          (λ e. v .0 .taken (e ∙ sym (read-first w))) (v .2 .ensures),
+      ap length (v .5) ∙ v .2 .kept .0 ∙ l .inv .1,
+      omega arith,
+    ))
+    (λ v. (
+      ap view (v .1) ∙ l .inv .0 ∙ renewed-origin x (l .r) (v .0 .left ∙ read-first w),
+      ap length (v .1) ∙ l .inv .1,
+      omega
+          arith,
+    )) (c .if1 .came)
 
 same-length : tie.Need-same-length Inv-loop μ-loop
-same-length c = let l = c .before .loop in let a = c .before .before .before .before .args in let p = c .before .before .before .before .pre in let x = view (now (a .net)) in l .inv .1 ∙ sym (p .0)
+same-length c =
+    let l = c .before .loop in
+    let a = c .before .before .before .before .args in
+    let p = c .before .before .before .before .pre in
+    let x = view (now (a .net)) in
+    l .inv .1 ∙ sym (p .0)
 
 returns : tie.Need-returns Inv-loop μ-loop
-returns c = let l = c .before .loop in let a = c .before .before .before .before .args in let p = c .before .before .before .before .pre in let x = view (now (a .net)) in renewing-done (now (a .net)) (l .net) (l .r) (a .n) (p .1 .is) (omega arith) (l .inv .0)
+returns c =
+    let l = c .before .loop in
+    let a = c .before .before .before .before .args in
+    let p = c .before .before .before .before .pre in
+    let x = view (now (a .net)) in
+    renewing-done (now (a .net)) (l .net) (l .r) (a .n) (p .1 .is) (omega arith) (l .inv .0)
 
 pub renew-rows-spec : {M : Type 1} → statement M
 renew-rows-spec =

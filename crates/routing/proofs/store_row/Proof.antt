@@ -39,7 +39,10 @@ same-length : tie.Need-same-length
 same-length c = search needs
 
 returns : tie.Need-returns
-returns c = let a = c .args in let p = c .pre in store-row (now (a .net)) (p .0) (a .node) (a .label) (a .predecessor) (a .list) (p .1 .0 .below) (p .1 .1)
+returns c =
+    let a = c .args in
+    let p = c .pre in
+    store-row (now (a .net)) (p .0) (a .node) (a .label) (a .predecessor) (a .list) (p .1 .0 .below) (p .1 .1)
 
 pub store-row-spec : {M : Type 1} → statement M
 store-row-spec =

@@ -44,7 +44,8 @@ loop-less c = search needs
 
 loop-again : tie.Need-loop-again Inv-loop μ-loop
 unfolding strayRows some
-loop-again c = (c .or .ensures ∙ rw (add-one, c .before .stray-row .ensures, c .before .before .before .before .loop .inv .0), omega arith)
+loop-again c =
+    (c .or .ensures ∙ rw (add-one, c .before .stray-row .ensures, c .before .before .before .before .loop .inv .0), omega arith)
 
 returns : tie.Need-returns Inv-loop μ-loop
 returns c =

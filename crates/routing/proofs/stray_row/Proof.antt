@@ -14,13 +14,18 @@ listed-requires : tie.Need-listed-requires
 listed-requires c κs = search needs
 
 returns-2 : tie.Need-returns-2
-returns-2 c = let a = c .before .before .before .args in stray-self (a .n) (a .receiver) (a .word) (omega arith) (sym (c .before .listed .ensures) ∙ c .if2 .taken)
+returns-2 c =
+    let a = c .before .before .before .args in
+    stray-self (a .n) (a .receiver) (a .word) (omega arith) (sym (c .before .listed .ensures) ∙ c .if2 .taken)
 
 bit-beyond-requires : tie.Need-bit-beyond-requires
 bit-beyond-requires c κs = search needs
 
 returns-3 : tie.Need-returns-3
-returns-3 c = let a = c .before .before .before .before .args in c .bit-beyond .ensures ∙ stray-high (a .n) (a .receiver) (a .word) (c .before .before .before .before .fits .word .fits) (omega arith) (c .before .before .before .if1 .left) (sym (c .before .before .listed .ensures) ∙ c .before .if2 .left)
+returns-3 c =
+    let a = c .before .before .before .before .args in
+    c .bit-beyond .ensures ∙ stray-high (a .n) (a .receiver) (a .word) (c .before .before .before .before .fits .word .fits)
+    (omega arith) (c .before .before .before .if1 .left) (sym (c .before .before .listed .ensures) ∙ c .before .if2 .left)
 
 pub stray-row-spec : {M : Type 1} → statement M
 stray-row-spec =
