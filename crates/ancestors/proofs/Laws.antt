@@ -140,9 +140,11 @@ low-bit : (k i l : ℕ) → i < k → has (l % 2 ^ k) i ≡ has l i
 unfolding has
 low-bit k i l h =
     let f : k ≡ suc (k - suc i) + i = omega arith in
-    let e : l % 2 ^ k / 2 ^ i ≡ l / 2 ^ i % 2 ^ suc (k - suc i) = subst (λ (x : ℕ). l % 2 ^ x / 2 ^ i ≡ l / 2 ^ i % 2 ^ suc (k - suc i)) (sym f) (field l (suc (k - suc i)) i) in
+    let e : l % 2 ^ k / 2 ^ i ≡ l / 2 ^ i % 2 ^ suc (k - suc i) = subst (λ (x : ℕ). l % 2 ^ x / 2 ^ i ≡ l / 2 ^ i % 2 ^ suc (k - suc i))
+    (sym f) (field l (suc (k - suc i)) i) in
     let g : suc (k - suc i) ≡ (k - suc i) + 1 = omega arith in
-    let m : l / 2 ^ i % 2 ^ suc (k - suc i) % 2 ≡ l / 2 ^ i % 2 = subst (λ (x : ℕ). l / 2 ^ i % 2 ^ x % 2 ≡ l / 2 ^ i % 2) (sym g) (mod-mod-pow (l / 2 ^ i) (k - suc i) 1) in
+    let m : l / 2 ^ i % 2 ^ suc (k - suc i) % 2 ≡ l / 2 ^ i % 2 = subst (λ (x : ℕ). l / 2 ^ i % 2 ^ x % 2 ≡ l / 2 ^ i % 2) (sym g)
+    (mod-mod-pow (l / 2 ^ i) (k - suc i) 1) in
     ap (λ (x : ℕ). eqb x 1) (ap (λ (x : ℕ). x % 2) e ∙ m)
 
 one-bit : (x : ℕ) → x < 2 → ones x ≡ one (eqb (x % 2) 1)
@@ -159,7 +161,8 @@ ones-count (suc k) l h =
     let low : l % 2 ^ k < 2 ^ k = mod-lt l (pow-pos k) in
     let top : l / 2 ^ k < 2 = shr-lt 1 k (subst (λ (x : ℕ). l < 2 ^ x) (omega arith) h) in
     ap ones (sym (split l k)) ∙ ones-cat k (l / 2 ^ k) (l % 2 ^ k) low
-    ∙ ap₂ (λ (a b : ℕ). a + b) (one-bit (l / 2 ^ k) top) (ones-count k (l % 2 ^ k) low ∙ count-ext (has (l % 2 ^ k)) (has l) k (λ i b. low-bit k i l b))
+    ∙ ap₂ (λ (a b : ℕ). a + b) (one-bit (l / 2 ^ k) top) (ones-count k (l % 2 ^ k) low ∙ count-ext (has (l % 2 ^ k)) (has l) k
+    (λ i b. low-bit k i l b))
 
 pub hops-ones : (l : ℕ) → hops l ≡ ones l - 1
 unfolding hops

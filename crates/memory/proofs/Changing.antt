@@ -48,7 +48,8 @@ module _ (xs : List ℕ) (n s r : ℕ) (is : n ≡ view xs .nodes) where
     unfolding changeOf changeNumber costFault
     change-cost e h = leaves-refused 3 _ _ xs (rw (← is, e, lt-ltb 65535 c h)) (λ z. omega arith)
 
-    pub change-done : (ys : List ℕ) → pairFault n s r ≡ false → c ≤ 65535 → view ys ≡ changed (view xs) s r c → Leaves (changeOf (view xs) s r c) 0 xs ys
+    pub change-done : (ys : List ℕ) → pairFault n s r ≡ false → c ≤ 65535 → view ys ≡ changed (view xs) s r c → Leaves
+        (changeOf (view xs) s r c) 0 xs ys
     unfolding changeOf changeNumber costFault
     change-done ys e h v = leaves-accepted _ _ xs ys (rw (← is, e, le-ltb 65535 c h)) v
 
@@ -61,6 +62,7 @@ module _ (xs : List ℕ) (n s r : ℕ) (is : n ≡ view xs .nodes) where
     unfolding gradeOf gradeNumber gradeFault
     grade-high e h = leaves-refused 3 _ _ xs (rw (← is, e, lt-ltb 15 g h)) (λ z. omega arith)
 
-    pub grade-done : (ys : List ℕ) → pairFault n s r ≡ false → g ≤ 15 → view ys ≡ changed (view xs) s r (gradeCost g) → Leaves (gradeOf (view xs) s r g) 0 xs ys
+    pub grade-done : (ys : List ℕ) → pairFault n s r ≡ false → g ≤ 15 → view ys ≡ changed (view xs) s r (gradeCost g) → Leaves
+        (gradeOf (view xs) s r g) 0 xs ys
     unfolding gradeOf gradeNumber gradeFault
     grade-done ys e h v = leaves-accepted _ _ xs ys (rw (← is, e, le-ltb 15 g h)) v

@@ -132,7 +132,8 @@ row-away : (n : ℕ) (f : ℕ → ℕ) (o i v : ℕ) → n ≤ 32 → arcCosts �
 unfolding rowAt
 row-away n f o i v few h y =
     λ j. cond (eqb y o) (root (own o))
-    (rowOf (word-away n f rowLabels i v few (inr (omega arith)) y j) (word-away n f rowPredecessors i v few (inr (omega arith)) y j) (word-away n f rowLists i v few (inr (omega arith)) y j))
+    (rowOf (word-away n f rowLabels i v few (inr (omega arith)) y j) (word-away n f rowPredecessors i v few (inr (omega arith)) y j)
+    (word-away n f rowLists i v few (inr (omega arith)) y j))
 
 -- a store in a plane
 module _ (n : ℕ) (f : ℕ → ℕ) (b v : ℕ) (few : n ≤ 32) where
@@ -207,12 +208,14 @@ module _ (xs : List ℕ) where
       let n = min (look xs 0) 32 in
       λ j. reportOf (sym (cell-in n (look xs) heldLabels s r h k) j) (sym (cell-in n (look xs) heldLists s r h k) j)
 
-  pub read-relay : (y : ℕ) → y < view xs .nodes → y ≢ view xs .origin → rowOf (look xs (rowLabels + y)) (look xs (rowPredecessors + y)) (look xs (rowLists + y)) ≡ view xs .row y
+  pub read-relay : (y : ℕ) → y < view xs .nodes → y ≢ view xs .origin → rowOf (look xs (rowLabels + y)) (look xs (rowPredecessors + y))
+      (look xs (rowLists + y)) ≡ view xs .row y
   unfolding view netOf rowAt
   read-relay y h o =
       let n = min (look xs 0) 32 in
       rw (ne-eqb y (look xs 1) o)
-      (λ j. rowOf (sym (word-in n (look xs) rowLabels y h) j) (sym (word-in n (look xs) rowPredecessors y h) j) (sym (word-in n (look xs) rowLists y h) j))
+      (λ j. rowOf (sym (word-in n (look xs) rowLabels y h) j) (sym (word-in n (look xs) rowPredecessors y h) j)
+      (sym (word-in n (look xs) rowLists y h) j))
 
   pub read-origin : (y : ℕ) → y ≡ view xs .origin → view xs .row y ≡ root (own y)
   unfolding view netOf rowAt
@@ -237,10 +240,12 @@ module _ (xs : List ℕ) (size : length xs ≡ words) where
     inside b h = omega (arith, few xs)
 
     -- an arc's cost, and the list of its report
-    pub store-arc : (c l : ℕ) → view (set (set xs (heldLists + at) l) (arcCosts + at) c) ≡ withHeld (withCost (view xs) s r c) s r (reportOf (look xs (heldLabels + at)) l)
+    pub store-arc : (c l : ℕ) → view (set (set xs (heldLists + at) l) (arcCosts + at) c) ≡ withHeld (withCost (view xs) s r c) s r
+        (reportOf (look xs (heldLabels + at)) l)
     unfolding withHeld withCost view netOf
     store-arc c l =
-        gives-view (gives-set (arcCosts + at) c (gives-set (heldLists + at) l (gives-start xs size) (omega arith) (inside heldLists (omega arith))) (omega arith) (inside arcCosts (omega arith)))
+        gives-view (gives-set (arcCosts + at) c (gives-set (heldLists + at) l (gives-start xs size) (omega arith)
+        (inside heldLists (omega arith))) (omega arith) (inside arcCosts (omega arith)))
         ∙ same-net _ _ refl refl
         (by-pair (cell n f arcCosts) (cell n h arcCosts) s r c (cell-here n g arcCosts c (few xs) s r hs hr)
         (λ a b ne. cell-else n g arcCosts c (few xs) s r a b hs hr ne ∙ cell-away n f arcCosts (heldLists + at) l (few xs) (inr (omega arith)) a b))
@@ -259,7 +264,8 @@ module _ (xs : List ℕ) (size : length xs ≡ words) where
         held a b = reportOf (cell n f heldLabels a b) (cell n f heldLists a b)
 
         label : (a b : ℕ) → cell n h heldLabels a b ≡ cell n f heldLabels a b
-        label a b = cell-away n g heldLabels (arcCosts + at) c (few xs) (inl (omega (arith, few xs))) a b ∙ cell-away n f heldLabels (heldLists + at) l (few xs) (inr (omega arith)) a b
+        label a b = cell-away n g heldLabels (arcCosts + at) c (few xs) (inl (omega (arith, few xs))) a b ∙ cell-away n f heldLabels
+            (heldLists + at) l (few xs) (inr (omega arith)) a b
 
         list : (a b : ℕ) → cell n h heldLists a b ≡ cell n g heldLists a b
         list a b = cell-away n g heldLists (arcCosts + at) c (few xs) (inl (omega (arith, few xs))) a b
@@ -268,13 +274,16 @@ module _ (xs : List ℕ) (size : length xs ≡ words) where
     pub store-report : (d l : ℕ) → view (set (set xs (heldLabels + at) d) (heldLists + at) l) ≡ withHeld (view xs) s r (reportOf d l)
     unfolding withHeld view netOf
     store-report d l =
-        gives-view (gives-set (heldLists + at) l (gives-set (heldLabels + at) d (gives-start xs size) (omega arith) (inside heldLabels (omega arith))) (omega arith) (inside heldLists (omega arith)))
+        gives-view (gives-set (heldLists + at) l (gives-set (heldLabels + at) d (gives-start xs size) (omega arith)
+        (inside heldLabels (omega arith))) (omega arith) (inside heldLists (omega arith)))
         ∙ same-net _ _ refl refl
-        (λ a b. cell-away n g arcCosts (heldLists + at) l (few xs) (inr (omega arith)) a b ∙ cell-away n f arcCosts (heldLabels + at) d (few xs) (inr (omega arith)) a b)
+        (λ a b. cell-away n g arcCosts (heldLists + at) l (few xs) (inr (omega arith)) a b ∙ cell-away n f arcCosts (heldLabels + at) d
+        (few xs) (inr (omega arith)) a b)
         (λ y. row-away n g o (heldLists + at) l (few xs) (omega arith) y ∙ row-away n f o (heldLabels + at) d (few xs) (omega arith) y)
         (by-pair held (λ a b. reportOf (cell n h heldLabels a b) (cell n h heldLists a b)) s r (reportOf d l)
         (λ j. reportOf ((label s r ∙ cell-here n f heldLabels d (few xs) s r hs hr) j) (cell-here n g heldLists l (few xs) s r hs hr j))
-        (λ a b ne. λ j. reportOf ((label a b ∙ cell-else n f heldLabels d (few xs) s r a b hs hr ne) j) ((cell-else n g heldLists l (few xs) s r a b hs hr ne ∙ list a b) j)))
+        (λ a b ne. λ j. reportOf ((label a b ∙ cell-else n f heldLabels d (few xs) s r a b hs hr ne) j)
+        ((cell-else n g heldLists l (few xs) s r a b hs hr ne ∙ list a b) j)))
       where
         g : ℕ → ℕ
         g = upd f (heldLabels + at) d
@@ -306,7 +315,8 @@ module _ (xs : List ℕ) (size : length xs ≡ words) where
 
     -- the three words of a node
     labels : (a : ℕ) → word n g₃ rowLabels a ≡ word n g₁ rowLabels a
-    labels a = word-away n g₂ rowLabels (rowLists + y) l (few xs) (inr (omega arith)) a ∙ word-away n g₁ rowLabels (rowPredecessors + y) p (few xs) (inr (omega arith)) a
+    labels a = word-away n g₂ rowLabels (rowLists + y) l (few xs) (inr (omega arith)) a ∙ word-away n g₁ rowLabels (rowPredecessors + y) p
+        (few xs) (inr (omega arith)) a
 
     predecessors : (a : ℕ) → word n g₃ rowPredecessors a ≡ word n g₂ rowPredecessors a
     predecessors a = word-away n g₂ rowPredecessors (rowLists + y) l (few xs) (inr (omega arith)) a
@@ -315,16 +325,20 @@ module _ (xs : List ℕ) (size : length xs ≡ words) where
     before-predecessors a = word-away n f rowPredecessors (rowLabels + y) d (few xs) (inl (omega (arith, small))) a
 
     before-lists : (a : ℕ) → word n g₂ rowLists a ≡ word n f rowLists a
-    before-lists a = word-away n g₁ rowLists (rowPredecessors + y) p (few xs) (inl (omega (arith, small))) a ∙ word-away n f rowLists (rowLabels + y) d (few xs) (inl (omega (arith, small))) a
+    before-lists a = word-away n g₁ rowLists (rowPredecessors + y) p (few xs) (inl (omega (arith, small))) a ∙ word-away n f rowLists
+        (rowLabels + y) d (few xs) (inl (omega (arith, small))) a
 
-    elsewhere : (a : ℕ) → a ≢ y → rowOf (word n g₃ rowLabels a) (word n g₃ rowPredecessors a) (word n g₃ rowLists a) ≡ rowOf (word n f rowLabels a) (word n f rowPredecessors a) (word n f rowLists a)
+    elsewhere : (a : ℕ) → a ≢ y → rowOf (word n g₃ rowLabels a) (word n g₃ rowPredecessors a) (word n g₃ rowLists a) ≡ rowOf
+        (word n f rowLabels a) (word n f rowPredecessors a) (word n f rowLists a)
     elsewhere a ne =
-        λ j. rowOf ((labels a ∙ word-else n f rowLabels d (few xs) y a ne) j) ((predecessors a ∙ word-else n g₁ rowPredecessors p (few xs) y a ne ∙ before-predecessors a) j)
+        λ j. rowOf ((labels a ∙ word-else n f rowLabels d (few xs) y a ne) j) ((predecessors a ∙ word-else n g₁ rowPredecessors p (few xs) y
+        a ne ∙ before-predecessors a) j)
         ((word-else n g₂ rowLists l (few xs) y a ne ∙ before-lists a) j)
 
     there : rowOf (word n g₃ rowLabels y) (word n g₃ rowPredecessors y) (word n g₃ rowLists y) ≡ rowOf d p l
     there =
-        λ j. rowOf ((labels y ∙ word-here n f rowLabels d (few xs) y hy) j) ((predecessors y ∙ word-here n g₁ rowPredecessors p (few xs) y hy) j) (word-here n g₂ rowLists l (few xs) y hy j)
+        λ j. rowOf ((labels y ∙ word-here n f rowLabels d (few xs) y hy) j)
+        ((predecessors y ∙ word-here n g₁ rowPredecessors p (few xs) y hy) j) (word-here n g₂ rowLists l (few xs) y hy j)
 
     -- a store to the rows leaves costs and reports
     cells : (b : ℕ) → arcCosts ≤ b → (s r : ℕ) → cell n g₃ b s r ≡ cell n f b s r
@@ -335,7 +349,8 @@ module _ (xs : List ℕ) (size : length xs ≡ words) where
 
     stored : Gives (set (set (set xs (rowLabels + y) d) (rowPredecessors + y) p) (rowLists + y) l) n o g₃
     stored =
-        gives-set (rowLists + y) l (gives-set (rowPredecessors + y) p (gives-set (rowLabels + y) d (gives-start xs size) (omega arith) (omega (arith, small))) (omega arith) (omega (arith, small)))
+        gives-set (rowLists + y) l (gives-set (rowPredecessors + y) p (gives-set (rowLabels + y) d (gives-start xs size) (omega arith)
+        (omega (arith, small))) (omega arith) (omega (arith, small)))
         (omega arith) (omega (arith, small))
 
     pub store-row : y ≢ o → view (set (set (set xs (rowLabels + y) d) (rowPredecessors + y) p) (rowLists + y) l) ≡ withRow (view xs) y (rowOf d p l)
@@ -343,7 +358,8 @@ module _ (xs : List ℕ) (size : length xs ≡ words) where
     store-row ne =
         gives-view stored
         ∙ same-net _ _ refl refl (cells arcCosts (omega arith))
-        (by-place (rowAt n f o) (rowAt n g₃ o) y (rowOf d p l) (rw (ne-eqb y o ne) there) (λ a e. ap (λ w. cond (eqb a o) (root (own o)) w) (elsewhere a e)))
+        (by-place (rowAt n f o) (rowAt n g₃ o) y (rowOf d p l) (rw (ne-eqb y o ne) there)
+        (λ a e. ap (λ w. cond (eqb a o) (root (own o)) w) (elsewhere a e)))
         (λ a b. λ j. reportOf (cells heldLabels (omega arith) a b j) (cells heldLists (omega arith) a b j))
 
     -- the origin's words are not read

@@ -162,7 +162,13 @@ row-says n origin y d p l e =
 pub row-free : (n origin y d p l : ℕ) → RowForm n origin y d p l → rowFault n origin y d p l ≡ false
 unfolding rowFault
 row-free n origin y d p l f =
-    rw (origin-free origin y (f .relay), row-label-free d (f .positive) (f .label), predecessor-free n y p (f .below) (f .other), list-free n y l (f .bits) (f .own))
+    rw (
+      origin-free origin y (f .relay),
+      row-label-free d (f .positive) (f .label),
+      predecessor-free n y p (f .below) (f .other),
+      list-free
+          n y l (f .bits) (f .own),
+    )
 
 -- a report of sender s over an arc of cost c without a fault
 pub record ReportForm (n c s d l : ℕ) : Type 0 where

@@ -51,7 +51,8 @@ unfolding offer
 sum-small y c empty v e = let z : _≡_ {A = ℕ} 0 1 = cc in absurd (omega arith)
 sum-small y c (told d l) v e = go (has l y) (bool-cases (ltb maxLabel (d + c))) e
   where
-    go : (a : Bool) → (ltb maxLabel (d + c) ≡ true) ⊎ (ltb maxLabel (d + c) ≡ false) → cond (a || ltb maxLabel (d + c)) Nothing (Sum (d + c)) ≡ Sum v → v ≤ maxLabel
+    go : (a : Bool) → (ltb maxLabel (d + c) ≡ true) ⊎ (ltb maxLabel (d + c) ≡ false) → cond (a || ltb maxLabel (d + c)) Nothing
+        (Sum (d + c)) ≡ Sum v → v ≤ maxLabel
     go true t q = let z : _≡_ {A = ℕ} 0 1 = cc in absurd (omega arith)
     go false (inl t) q = let r : Nothing ≡ Sum v = rw t at q in let z : _≡_ {A = ℕ} 0 1 = cc in absurd (omega arith)
     go false (inr t) q = let r : Sum (d + c) ≡ Sum v = rw t at q in let w : d + c ≡ v = cc in omega (arith, ltb-false maxLabel (d + c) t)

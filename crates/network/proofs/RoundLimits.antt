@@ -81,7 +81,8 @@ module _ (x : Net) (w : Within x) where
     round-row-form : (y d p l : ℕ) → z .row y ≡ via d p l → rowFault (x .nodes) (x .origin) y d p l ≡ false
     round-row-form y d p l q =
         row-cases y (λ e o. root-via (z .row y) o q)
-        (λ b ne e. row-free (x .nodes) (x .origin) y d p l (chosen-form y d p l b ne (came (x .nodes) (λ s. x .cost s y) (λ s. z .held s y) y d p l (sym e ∙ q))))
+        (λ b ne e. row-free (x .nodes) (x .origin) y d p l (chosen-form y d p l b ne (came (x .nodes) (λ s. x .cost s y) (λ s. z .held s y)
+        y d p l (sym e ∙ q))))
         (λ e. w .row-form y d p l (sym e ∙ q))
 
     round-row-node : (y d p l : ℕ) → z .row y ≡ via d p l → nodeFault (x .nodes) y ≡ false

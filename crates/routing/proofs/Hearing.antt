@@ -79,7 +79,8 @@ unfolding report reportOf
 report-root o = rw (ne-eqb (own o) 0 (put-some 0 o))
 
 -- a sender's words in memory are what its row reports
-pub read-report : (xs : List ℕ) → Primed xs → (s : ℕ) → s < view xs .nodes → reportOf (look xs (rowLabels + s)) (look xs (rowLists + s)) ≡ report (view xs .row s)
+pub read-report : (xs : List ℕ) → Primed xs → (s : ℕ) → s < view xs .nodes → reportOf (look xs (rowLabels + s)) (look xs (rowLists + s)) ≡
+    report (view xs .row s)
 read-report xs primed s h = go (eq-or-ne s (view xs .origin))
   where
     go : (s ≡ view xs .origin) ⊎ (s ≢ view xs .origin) → reportOf (look xs (rowLabels + s)) (look xs (rowLists + s)) ≡ report (view xs .row s)
@@ -99,13 +100,15 @@ primed-set : (xs ys : List ℕ) → view ys .nodes ≡ view xs .nodes → view y
     → ((k : ℕ) → k < arcCosts → look ys k ≡ look xs k) → Primed xs → Primed ys
 primed-set xs ys n o e p =
     record {
-      label = λ h. let i : view xs .origin < view xs .nodes = omega (arith, n, o) in ap (λ y. look ys (rowLabels + y)) o ∙ e (rowLabels + view xs .origin) (omega (arith, few xs)) ∙ p .label i;
+      label = λ h. let i : view xs .origin < view xs .nodes = omega (arith, n, o) in ap (λ y. look ys (rowLabels + y)) o ∙ e
+          (rowLabels + view xs .origin) (omega (arith, few xs)) ∙ p .label i;
       list = λ h. let i : view xs .origin < view xs .nodes = omega (arith, n, o) in
           ap (λ y. look ys (rowLists + y)) o ∙ e (rowLists + view xs .origin) (omega (arith, few xs)) ∙ p .list i ∙ ap own (sym o);
     }
 
 -- two stores hear one arc
-module _ (xs : List ℕ) (size : length xs ≡ words) (primed : Primed xs) (s r : ℕ) (hs : s < view xs .nodes) (hr : r < view xs .nodes) (t : Bool) (d l : ℕ) where
+module _ (xs : List ℕ) (size : length xs ≡ words) (primed : Primed xs) (s r : ℕ) (hs : s < view xs .nodes) (hr : r < view xs .nodes)
+    (t : Bool) (d l : ℕ) where
   abbrev at : ℕ
   at = r * 32 + s
 
@@ -117,12 +120,14 @@ module _ (xs : List ℕ) (size : length xs ≡ words) (primed : Primed xs) (s r 
   hear-arc p q =
       record {
         net = heard;
-        primed = primed-set xs (set ys (heldLists + at) l) (ap (λ (x : Net). x .nodes) heard ∙ hear-nodes _ _) (ap (λ (x : Net). x .origin) heard ∙ hear-origin _ _) rows primed;
+        primed = primed-set xs (set ys (heldLists + at) l) (ap (λ (x : Net). x .nodes) heard ∙ hear-nodes _ _)
+            (ap (λ (x : Net). x .origin) heard ∙ hear-origin _ _) rows primed;
       }
     where
       l-is : l ≡ cond t (look xs (rowLists + s)) (look xs (heldLists + at))
       l-is =
-          q ∙ (λ j. cond t (getD-set-other xs (heldLabels + at) (rowLists + s) d 0 (λ e. omega (arith, few xs)) j) (getD-set-other xs (heldLabels + at) (heldLists + at) d 0 (λ e. omega arith) j))
+          q ∙ (λ j. cond t (getD-set-other xs (heldLabels + at) (rowLists + s) d 0 (λ e. omega (arith, few xs)) j) (getD-set-other xs
+          (heldLabels + at) (heldLists + at) d 0 (λ e. omega arith) j))
 
       new : reportOf d l ≡ cond t (report (view xs .row s)) (view xs .held s r)
       new =
@@ -209,7 +214,8 @@ pub arc-row-step : (x : Net) (r k a b : ℕ) → (oneMark k r (ltb 0 (x .cost k 
 unfolding arcRow oneMark
 arc-row-step x r k a b = go (eq-or-ne b r)
   where
-    go : (b ≡ r) ⊎ (b ≢ r) → ((eqb a k && (eqb b r && ltb 0 (x .cost k r))) || (eqb b r && (ltb a k && ltb 0 (x .cost a b)))) ≡ (eqb b r && (ltb a (k + 1) && ltb 0 (x .cost a b)))
+    go : (b ≡ r) ⊎ (b ≢ r) → ((eqb a k && (eqb b r && ltb 0 (x .cost k r))) || (eqb b r && (ltb a k && ltb 0 (x .cost a b)))) ≡
+        (eqb b r && (ltb a (k + 1) && ltb 0 (x .cost a b)))
     go (inl e) = rw e (senders-step (eqb r r) (λ s. ltb 0 (x .cost s r)) k a)
     go (inr n) = rw (ne-eqb b r n, and-false (eqb a k))
 
@@ -286,7 +292,8 @@ module _ (xs : List ℕ) (size : length xs ≡ words) (y l : ℕ) (e : y ≡ vie
 
       label : look zs (rowLabels + y) ≡ 0
       label =
-          getD-set-other x₂ (rowLists + y) (rowLabels + y) l 0 (λ k. omega arith) ∙ getD-set-other x₁ (rowPredecessors + y) (rowLabels + y) 0 0 (λ k. omega arith)
+          getD-set-other x₂ (rowLists + y) (rowLabels + y) l 0 (λ k. omega arith) ∙ getD-set-other x₁ (rowPredecessors + y) (rowLabels + y)
+          0 0 (λ k. omega arith)
           ∙ getD-set-same xs (rowLabels + y) 0 0 (omega (arith, few xs, size))
 
       list : look zs (rowLists + y) ≡ l

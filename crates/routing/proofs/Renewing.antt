@@ -110,7 +110,8 @@ renewed-step x k o = same-net _ _ refl refl (λ s r. refl) (λ y. go y (eq-or-ne
     new y = choice (x .nodes) (λ s. x .cost s y) (λ s. x .held s y) y
 
     go : (y : ℕ) → (y ≡ k) ⊎ (y ≢ k)
-        → cond (eqb y k) (new k) (cond (ltb y k && not (eqb y (x .origin))) (new y) (x .row y)) ≡ cond (ltb y (k + 1) && not (eqb y (x .origin))) (new y) (x .row y)
+        → cond (eqb y k) (new k) (cond (ltb y k && not (eqb y (x .origin))) (new y) (x .row y)) ≡ cond
+        (ltb y (k + 1) && not (eqb y (x .origin))) (new y) (x .row y)
     go y (inl e) = rw (e, eqb-same k, lt-ltb k (k + 1) (omega arith), ne-eqb k (x .origin) o)
     go y (inr n) = rw (ne-eqb y k n, ltb-other y k n)
 

@@ -97,7 +97,8 @@ module _ (n origin : ℕ) (cost : ℕ → ℕ → ℕ) (ends : Ends n origin cos
       predecessor : Predecessor cost origin y s
       predecessor =
           record {
-            tight = record { arc = arc; before = e; sender-least = by-least cost origin (f .by); receiver-least = subst (Least cost origin y) (sym q) m };
+            tight = record
+                { arc = arc; before = e; sender-least = by-least cost origin (f .by); receiver-least = subst (Least cost origin y) (sym q) m };
             lowest = λ r t. low r (tight-last y d r m t);
           }
 

@@ -27,7 +27,8 @@ module _ (cost : ℕ → ℕ → ℕ) (origin : ℕ) where
       subst (λ (e : ℕ). Least cost origin y (e + cost s y)) (least-once cost origin (p .tight .sender-least) (by-least b)) (p .tight .receiver-least)
 
   -- the predecessor's list lacks y
-  pub by-apart : {s k e l y : ℕ} {w : Row} → y ≢ origin → SettledBy s k e l w → Predecessor cost origin y s → Route cost origin s k e l → has l y ≡ false
+  pub by-apart : {s k e l y : ℕ} {w : Row} → y ≢ origin → SettledBy s k e l w → Predecessor cost origin y s → Route cost origin s k e l
+      → has l y ≡ false
   by-apart relay b p r = route-apart cost origin r (p .tight .arc) (by-least (next relay b p))
 
   -- the route is real

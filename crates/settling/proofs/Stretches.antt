@@ -19,7 +19,8 @@ afterRounds (suc t) [] x = x
 afterRounds (suc t) (m ∷ ms) x = afterRounds t ms (roundWith m x)
 
 -- the last of t + 1 rounds has the marks numbered t
-after-rounds-last : (t : ℕ) (ms : List Marks) (x : Net) → t < length ms → afterRounds (suc t) ms x ≡ roundWith (getD ms t unmarked) (afterRounds t ms x)
+after-rounds-last : (t : ℕ) (ms : List Marks) (x : Net) → t < length ms → afterRounds (suc t) ms x ≡ roundWith (getD ms t unmarked)
+    (afterRounds t ms x)
 unfolding afterRounds
 after-rounds-last zero [] x h = absurd (omega arith)
 after-rounds-last zero (m ∷ ms) x h = refl

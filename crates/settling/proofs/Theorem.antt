@@ -12,7 +12,8 @@ use Rattle.settling.proofs.Rounds.{rounds-real, rounds-settled}
 use Rattle.settling.proofs.CallLaws.{after-nodes, after-within}
 use Rattle.settling.proofs.Stretches.{afterRounds, stretch-after, stretch-rounds}
 
-module _ (x : Net) (within : Within x) (cs : List Call) (W : ℕ) (positive : 1 ≤ W) (still : Stretch x cs) (heard : HeardWithin W (x .cost) (rounds x cs)) where
+module _ (x : Net) (within : Within x) (cs : List Call) (W : ℕ) (positive : 1 ≤ W) (still : Stretch x cs)
+    (heard : HeardWithin W (x .cost) (rounds x cs)) where
   -- a stretch of (n - 1) W rounds ends with every label a real route's cost
   stretch-real : (x .nodes - 1) * W ≤ length (rounds x cs) → AllReal (after x cs)
   unfolding afterRounds
