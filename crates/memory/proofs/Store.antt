@@ -1,7 +1,7 @@
 -- What stores do to the network that the words give. Address arithmetic stands here alone.
 -- Assumes nothing.
 use mathlib.Core.Path.{_≡_, refl, sym, ap, _∙_}
-use mathlib.Core.Bool.{false, cond, _&&_, and-false}
+use mathlib.Core.Bool.{Bool, false, cond, _&&_, and-false}
 use mathlib.Core.Logic.{_⊎_, inl, inr, _≢_, ⊎-elim}
 use mathlib.Core.List.{List}
 use Prim.Native.Nat.{ℕ, _+_, _*_, _<_, _≤_, min}
@@ -384,3 +384,7 @@ module _ (xs : List ℕ) (n s r : ℕ) (is : n ≡ view xs .nodes) (e : pairFaul
 
   pub receiver-node : Node xs r
   receiver-node = let k = pair-says n s r e in record { below = omega arith; small = omega (arith, few xs) }
+
+-- a pair's test on the number of nodes read is the test on the network's
+pub pair-tested : (xs : List ℕ) (n s r : ℕ) (b t : Bool) → n ≡ view xs .nodes → b ≡ pairFault n s r → b ≡ t → pairFault (view xs .nodes) s r ≡ t
+pair-tested xs n s r b t q e f = ap (λ k. pairFault k s r) (sym q) ∙ sym e ∙ f

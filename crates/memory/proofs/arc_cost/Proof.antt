@@ -7,7 +7,7 @@ use denote.Ref.{now}
 use Rattle.network.specs.Faults.{pairFault}
 use Rattle.memory.specs.Layout.{view}
 use Rattle.memory.specs.Answers.{readCost, costMeans}
-use Rattle.memory.proofs.Store.{sender-node, receiver-node}
+use Rattle.memory.proofs.Store.{sender-node, receiver-node, pair-tested}
 use Rattle.memory.proofs.arc_cost.Statement.{statement}
 use Rattle.memory.proofs.arc_cost.Tie as tie
 
@@ -22,7 +22,8 @@ unfolding costMeans readCost
 returns c =
     let a = c .before .before .before .args in
     let w = now (a .net) in
-    let e : pairFault (view w .nodes) (a .sender) (a .receiver) ≡ true = cc in
+    let e : pairFault (view w .nodes) (a .sender) (a .receiver) ≡ true =
+    pair-tested w _ (a .sender) (a .receiver) _ _ (c .before .before .nodes .ensures) (c .before .pair-fault .ensures) (c .if1 .taken) in
     rw e
 
 cost-word-requires : tie.Need-cost-word-requires
@@ -40,7 +41,8 @@ unfolding costMeans readCost
 returns-2 c =
     let a = c .before .before .before .before .before .args in
     let w = now (a .net) in
-    let e : pairFault (view w .nodes) (a .sender) (a .receiver) ≡ false = cc in
+    let e : pairFault (view w .nodes) (a .sender) (a .receiver) ≡ false =
+    pair-tested w _ (a .sender) (a .receiver) _ _ (c .before .before .before .before .nodes .ensures) (c .before .before .before .pair-fault .ensures) (c .before .before .if1 .left) in
     rw (e, c .cost-word .ensures)
 
 pub arc-cost-spec : {M : Type 1} → statement M

@@ -8,7 +8,7 @@ use denote.Ref.{now}
 use Rattle.network.specs.Faults.{pairFault}
 use Rattle.memory.specs.Layout.{view}
 use Rattle.memory.specs.Answers.{readHeld, heldMeans}
-use Rattle.memory.proofs.Store.{sender-node, receiver-node}
+use Rattle.memory.proofs.Store.{sender-node, receiver-node, pair-tested}
 use Rattle.memory.proofs.Reading.{held-none, held-told}
 use Rattle.memory.proofs.held.Statement.{statement}
 use Rattle.memory.proofs.held.Tie as tie
@@ -24,7 +24,8 @@ unfolding heldMeans readHeld
 returns c =
     let a = c .before .before .before .args in
     let w = now (a .net) in
-    let e : pairFault (view w .nodes) (a .sender) (a .receiver) ≡ true = cc in
+    let e : pairFault (view w .nodes) (a .sender) (a .receiver) ≡ true =
+    pair-tested w _ (a .sender) (a .receiver) _ _ (c .before .before .nodes .ensures) (c .before .pair-fault .ensures) (c .if1 .taken) in
     rw e
 
 mul-at : tie.Need-mul-at
@@ -53,7 +54,8 @@ returns-2 : tie.Need-returns-2
 returns-2 c =
     let a = c .before .before .before .before .before .args in
     let w = now (a .net) in
-    let e : pairFault (view w .nodes) (a .sender) (a .receiver) ≡ false = cc in
+    let e : pairFault (view w .nodes) (a .sender) (a .receiver) ≡ false =
+    pair-tested w _ (a .sender) (a .receiver) _ _ (c .before .before .before .before .nodes .ensures) (c .before .before .before .pair-fault .ensures) (c .before .before .if1 .left) in
     held-none w (a .sender) (a .receiver) e (c .if2 .taken)
 
 add-t9 : tie.Need-add-t9
@@ -76,7 +78,8 @@ returns-3 : tie.Need-returns-3
 returns-3 c =
     let a = c .before .before .before .before .before .before .args in
     let w = now (a .net) in
-    let e : pairFault (view w .nodes) (a .sender) (a .receiver) ≡ false = cc in
+    let e : pairFault (view w .nodes) (a .sender) (a .receiver) ≡ false =
+    pair-tested w _ (a .sender) (a .receiver) _ _ (c .before .before .before .before .before .nodes .ensures) (c .before .before .before .before .pair-fault .ensures) (c .before .before .before .if1 .left) in
     held-told w (a .sender) (a .receiver) e (c .before .if2 .left)
 
 pub held-spec : {M : Type 1} → statement M

@@ -7,7 +7,7 @@ use denote.Ref.{now}
 use Rattle.network.specs.Faults.{pairFault, reportFault}
 use Rattle.network.specs.Network.{placeReportNumber}
 use Rattle.memory.specs.Layout.{view}
-use Rattle.memory.proofs.Store.{sender-node, receiver-node}
+use Rattle.memory.proofs.Store.{sender-node, receiver-node, pair-tested}
 use Rattle.memory.proofs.report_number.Statement.{statement}
 use Rattle.memory.proofs.report_number.Tie as tie
 
@@ -22,7 +22,8 @@ unfolding placeReportNumber
 returns c =
     let a = c .before .before .before .args in
     let w = now (a .net) in
-    let e : pairFault (view w .nodes) (a .sender) (a .receiver) ≡ true = cc in
+    let e : pairFault (view w .nodes) (a .sender) (a .receiver) ≡ true =
+    pair-tested w _ (a .sender) (a .receiver) _ _ (c .before .before .nodes .ensures) (c .before .pair-fault .ensures) (c .if1 .taken) in
     rw e
 
 cost-word-requires : tie.Need-cost-word-requires
@@ -43,8 +44,11 @@ unfolding placeReportNumber
 returns-2 c =
     let a = c .before .before .before .before .before .before .before .args in
     let w = now (a .net) in
-    let e : pairFault (view w .nodes) (a .sender) (a .receiver) ≡ false = cc in
-    let f : reportFault (view w .nodes) (view w .cost (a .sender) (a .receiver)) (a .sender) (a .label) (a .list) ≡ true = cc in
+    let e : pairFault (view w .nodes) (a .sender) (a .receiver) ≡ false =
+    pair-tested w _ (a .sender) (a .receiver) _ _ (c .before .before .before .before .before .before .nodes .ensures) (c .before .before .before .before .before .pair-fault .ensures) (c .before .before .before .before .if1 .left) in
+    let f : reportFault (view w .nodes) (view w .cost (a .sender) (a .receiver)) (a .sender) (a .label) (a .list) ≡ true =
+    (λ j. reportFault (sym (c .before .before .before .before .before .before .nodes .ensures) j) (sym (c .before .before .cost-word .ensures) j) (a .sender) (a .label) (a .list))
+    ∙ sym (c .before .report-fault .ensures) ∙ c .if2 .taken in
     rw (e, f)
 
 returns-3 : tie.Need-returns-3
@@ -52,8 +56,11 @@ unfolding placeReportNumber
 returns-3 c =
     let a = c .before .before .before .before .before .before .before .args in
     let w = now (a .net) in
-    let e : pairFault (view w .nodes) (a .sender) (a .receiver) ≡ false = cc in
-    let f : reportFault (view w .nodes) (view w .cost (a .sender) (a .receiver)) (a .sender) (a .label) (a .list) ≡ false = cc in
+    let e : pairFault (view w .nodes) (a .sender) (a .receiver) ≡ false =
+    pair-tested w _ (a .sender) (a .receiver) _ _ (c .before .before .before .before .before .before .nodes .ensures) (c .before .before .before .before .before .pair-fault .ensures) (c .before .before .before .before .if1 .left) in
+    let f : reportFault (view w .nodes) (view w .cost (a .sender) (a .receiver)) (a .sender) (a .label) (a .list) ≡ false =
+    (λ j. reportFault (sym (c .before .before .before .before .before .before .nodes .ensures) j) (sym (c .before .before .cost-word .ensures) j) (a .sender) (a .label) (a .list))
+    ∙ sym (c .before .report-fault .ensures) ∙ c .if2 .left in
     rw (e, f)
 
 pub report-number-spec : {M : Type 1} → statement M

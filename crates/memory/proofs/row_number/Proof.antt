@@ -4,7 +4,7 @@ use borrow.Author.Needs.{needs}
 use native.Mathlib.Omega.{arith}
 use Prim.Native.Nat.{_<_, _≤_}
 use mathlib.Core.Bool.{true, false}
-use mathlib.Core.Path.{_≡_}
+use mathlib.Core.Path.{_≡_, sym, _∙_}
 use denote.Ref.{now}
 use borrow.Author.Tests.{le-leb}
 use Rattle.network.specs.Faults.{nodeFault, rowFault}
@@ -39,7 +39,9 @@ returns-2 c =
     let w = now (a .net) in
     let o = read-first w in
     let h : a .node < view w .nodes = omega arith in
-    let e : rowFault (view w .nodes) (view w .origin) (a .node) (a .label) (a .predecessor) (a .list) ≡ true = cc in
+    let e : rowFault (view w .nodes) (view w .origin) (a .node) (a .label) (a .predecessor) (a .list) ≡ true =
+    (λ j. rowFault (sym (c .before .before .before .before .nodes .ensures) j) (sym o j) (a .node) (a .label) (a .predecessor) (a .list))
+    ∙ sym (c .before .row-fault .ensures) ∙ c .if2 .taken in
     rw (node-free (view w .nodes) (a .node) h, e)
 
 returns-3 : tie.Need-returns-3
@@ -49,7 +51,9 @@ returns-3 c =
     let w = now (a .net) in
     let o = read-first w in
     let h : a .node < view w .nodes = omega arith in
-    let e : rowFault (view w .nodes) (view w .origin) (a .node) (a .label) (a .predecessor) (a .list) ≡ false = cc in
+    let e : rowFault (view w .nodes) (view w .origin) (a .node) (a .label) (a .predecessor) (a .list) ≡ false =
+    (λ j. rowFault (sym (c .before .before .before .before .nodes .ensures) j) (sym o j) (a .node) (a .label) (a .predecessor) (a .list))
+    ∙ sym (c .before .row-fault .ensures) ∙ c .if2 .left in
     rw (node-free (view w .nodes) (a .node) h, e)
 
 pub row-number-spec : {M : Type 1} → statement M
