@@ -166,8 +166,7 @@ row-free n origin y d p l f =
       origin-free origin y (f .relay),
       row-label-free d (f .positive) (f .label),
       predecessor-free n y p (f .below) (f .other),
-      list-free
-          n y l (f .bits) (f .own),
+      list-free n y l (f .bits) (f .own),
     )
 
 -- a report of sender s over an arc of cost c without a fault

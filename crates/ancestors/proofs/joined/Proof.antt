@@ -1,6 +1,6 @@
 -- `ancestors::joined` meets its contract: a shifted one or-ed in.
 -- Assumes nothing.
-use borrow.Author.Needs.{needs}
+use native.Mathlib.Omega.{arith}
 use borrow.Author.Tests.{lt-ltb, le-ltb}
 use Rattle.ancestors.proofs.Words.{code-put}
 use Rattle.ancestors.proofs.joined.Statement.{statement}
@@ -10,7 +10,7 @@ returns : tie.Need-returns
 returns c = rw (le-ltb _ _ (c .if1 .taken))
 
 shl-result : tie.Need-shl-result
-shl-result c = search needs
+shl-result c = omega arith
 
 returns-2 : tie.Need-returns-2
 returns-2 c = rw (lt-ltb _ _ (c .if1 .left)) (code-put (c .before .args .list) (c .before .args .node) (c .if1 .left))

@@ -1,6 +1,7 @@
 -- `field::full_rounds` ends: as many rounds are left as it has still to do.
 -- Assumes nothing.
 use borrow.Author.Needs.{needs}
+use native.Mathlib.Omega.{arith}
 use Prim.Native.Nat.{_≤_, _-_}
 use Rattle.field.proofs.full_rounds.Statement.{statement}
 use Rattle.field.proofs.full_rounds.Tie as tie
@@ -18,10 +19,10 @@ full-round-requires : tie.Need-full-round-requires Inv-loop μ-loop
 full-round-requires c κs = search needs
 
 add-done : tie.Need-add-done Inv-loop μ-loop
-add-done c = search needs
+add-done c = omega arith
 
 loop-less : tie.Need-loop-less Inv-loop μ-loop
-loop-less c = search needs
+loop-less c = omega arith
 
 loop-again : tie.Need-loop-again Inv-loop μ-loop
 loop-again c = search needs

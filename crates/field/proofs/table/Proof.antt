@@ -1,6 +1,7 @@
 -- `field::table` ends: as many lines are left as nodes.
 -- Assumes nothing.
 use borrow.Author.Needs.{needs}
+use native.Mathlib.Omega.{arith}
 use Prim.Native.Nat.{_≤_, _-_}
 use Rattle.field.proofs.table.Statement.{statement}
 use Rattle.field.proofs.table.Tie as tie
@@ -27,10 +28,10 @@ line-requires : tie.Need-line-requires Inv-loop μ-loop
 line-requires c κs = search needs
 
 add-node : tie.Need-add-node Inv-loop μ-loop
-add-node c = search needs
+add-node c = omega arith
 
 loop-less : tie.Need-loop-less Inv-loop μ-loop
-loop-less c = search needs
+loop-less c = omega arith
 
 loop-again : tie.Need-loop-again Inv-loop μ-loop
 loop-again c = search needs

@@ -29,16 +29,16 @@ returns c =
     rw e
 
 mul-at : tie.Need-mul-at
-mul-at c = search needs
+mul-at c = omega arith
 
 add-at : tie.Need-add-at
-add-at c = search needs
+add-at c = omega arith
 
 add-list : tie.Need-add-list
-add-list c = search needs
+add-list c = omega arith
 
 mul-list : tie.Need-mul-list
-mul-list c = search needs
+mul-list c = omega arith
 
 element-copy-out-list : tie.Need-element-copy-out-list
 element-copy-out-list c =
@@ -59,10 +59,10 @@ returns-2 c =
     held-none w (a .sender) (a .receiver) e (c .if2 .taken)
 
 add-t9 : tie.Need-add-t9
-add-t9 c = search needs
+add-t9 c = omega arith
 
 mul-t8 : tie.Need-mul-t8
-mul-t8 c = search needs
+mul-t8 c = omega arith
 
 element-copy-out-t7 : tie.Need-element-copy-out-t7
 element-copy-out-t7 c =

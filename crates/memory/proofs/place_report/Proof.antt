@@ -19,16 +19,16 @@ returns c =
     refused-report w (a .sender) (a .receiver) (a .label) (a .list) _ (c .before .report-number .ensures) (c .if1 .taken)
 
 mul-at : tie.Need-mul-at
-mul-at c = search needs
+mul-at c = omega arith
 
 add-at : tie.Need-add-at
-add-at c = search needs
+add-at c = omega arith
 
 add-all : tie.Need-add-all
-add-all c = search needs
+add-all c = omega arith
 
 mul-all : tie.Need-mul-all
-mul-all c = search needs
+mul-all c = omega arith
 
 slice-write-all : tie.Need-slice-write-all
 slice-write-all c =
@@ -39,10 +39,10 @@ slice-write-all c =
     omega arith
 
 add-all-2 : tie.Need-add-all-2
-add-all-2 c = search needs
+add-all-2 c = omega arith
 
 mul-all-2 : tie.Need-mul-all-2
-mul-all-2 c = search needs
+mul-all-2 c = omega arith
 
 slice-write-all-2 : tie.Need-slice-write-all-2
 slice-write-all-2 c =

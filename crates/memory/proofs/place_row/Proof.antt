@@ -20,10 +20,10 @@ returns c =
     refused-row w (a .node) (a .label) (a .predecessor) (a .list) _ (c .before .row-number .ensures) (c .if1 .taken)
 
 add-all : tie.Need-add-all
-add-all c = search needs
+add-all c = omega arith
 
 mul-all : tie.Need-mul-all
-mul-all c = search needs
+mul-all c = omega arith
 
 slice-write-all : tie.Need-slice-write-all
 slice-write-all c =
@@ -34,10 +34,10 @@ slice-write-all c =
     omega arith
 
 add-all-2 : tie.Need-add-all-2
-add-all-2 c = search needs
+add-all-2 c = omega arith
 
 mul-all-2 : tie.Need-mul-all-2
-mul-all-2 c = search needs
+mul-all-2 c = omega arith
 
 slice-write-all-2 : tie.Need-slice-write-all-2
 slice-write-all-2 c =
@@ -48,10 +48,10 @@ slice-write-all-2 c =
     simp length-set (omega arith)
 
 add-all-3 : tie.Need-add-all-3
-add-all-3 c = search needs
+add-all-3 c = omega arith
 
 mul-all-3 : tie.Need-mul-all-3
-mul-all-3 c = search needs
+mul-all-3 c = omega arith
 
 slice-write-all-3 : tie.Need-slice-write-all-3
 slice-write-all-3 c =

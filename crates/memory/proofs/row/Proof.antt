@@ -33,10 +33,10 @@ returns-2 c =
     (c .count-hops .ensures)
 
 add-list : tie.Need-add-list
-add-list c = search needs
+add-list c = omega arith
 
 mul-list : tie.Need-mul-list
-mul-list c = search needs
+mul-list c = omega arith
 
 element-copy-out-list : tie.Need-element-copy-out-list
 element-copy-out-list c = let a = c .before .before .before .before .args in let w = now (a .net) in let h = few w in omega arith
@@ -48,10 +48,10 @@ returns-3 c =
     row-none w (a .node) (omega arith) (λ q. c .before .before .if2 .left (q ∙ sym (read-first w))) (c .if3 .taken)
 
 add-t11 : tie.Need-add-t11
-add-t11 c = search needs
+add-t11 c = omega arith
 
 mul-t12 : tie.Need-mul-t12
-mul-t12 c = search needs
+mul-t12 c = omega arith
 
 element-copy-out-t6 : tie.Need-element-copy-out-t6
 element-copy-out-t6 c =
@@ -61,10 +61,10 @@ element-copy-out-t6 c =
     omega arith
 
 add-t17 : tie.Need-add-t17
-add-t17 c = search needs
+add-t17 c = omega arith
 
 mul-t18 : tie.Need-mul-t18
-mul-t18 c = search needs
+mul-t18 c = omega arith
 
 element-copy-out-t21 : tie.Need-element-copy-out-t21
 element-copy-out-t21 c =

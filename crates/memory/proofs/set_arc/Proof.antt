@@ -9,46 +9,46 @@ use Rattle.memory.proofs.set_arc.Statement.{statement}
 use Rattle.memory.proofs.set_arc.Tie as tie
 
 mul-at : tie.Need-mul-at
-mul-at c = search needs
+mul-at c = omega arith
 
 add-at : tie.Need-add-at
-add-at c = search needs
+add-at c = omega arith
 
 add-kept-list : tie.Need-add-kept-list
-add-kept-list c = search needs
+add-kept-list c = omega arith
 
 mul-kept-list : tie.Need-mul-kept-list
-mul-kept-list c = search needs
+mul-kept-list c = omega arith
 
 slice-read-kept-list : tie.Need-slice-read-kept-list
-slice-read-kept-list c = search needs
+slice-read-kept-list c = omega arith
 
 add-kept-list-2 : tie.Need-add-kept-list-2
-add-kept-list-2 c = search needs
+add-kept-list-2 c = omega arith
 
 mul-kept-list-2 : tie.Need-mul-kept-list-2
-mul-kept-list-2 c = search needs
+mul-kept-list-2 c = omega arith
 
 slice-read-kept-list-2 : tie.Need-slice-read-kept-list-2
-slice-read-kept-list-2 c = search needs
+slice-read-kept-list-2 c = omega arith
 
 kept-list-requires : tie.Need-kept-list-requires
 kept-list-requires c κs = search needs
 
 add-net : tie.Need-add-net
-add-net c = search needs
+add-net c = omega arith
 
 mul-net : tie.Need-mul-net
-mul-net c = search needs
+mul-net c = omega arith
 
 slice-write-net : tie.Need-slice-write-net
-slice-write-net c = search needs
+slice-write-net c = omega arith
 
 add-net-2 : tie.Need-add-net-2
-add-net-2 c = search needs
+add-net-2 c = omega arith
 
 mul-net-2 : tie.Need-mul-net-2
-mul-net-2 c = search needs
+mul-net-2 c = omega arith
 
 slice-write-net-2 : tie.Need-slice-write-net-2
 slice-write-net-2 c = simp length-set (omega arith)

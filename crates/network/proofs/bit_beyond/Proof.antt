@@ -1,6 +1,6 @@
 -- `network::bit_beyond` meets its contract: a shift leaves the bits not below n.
 -- Assumes nothing.
-use borrow.Author.Needs.{needs}
+use native.Mathlib.Omega.{arith}
 use mathlib.Core.Path.{sym}
 use borrow.Author.Tests.{lt-leb}
 use Rattle.network.proofs.Bits.{shift-none, shift-some}
@@ -11,7 +11,7 @@ returns : tie.Need-returns
 returns c = sym (lt-leb _ _ (shift-none (c .before .args .n) (c .before .args .list) (c .before .fits .list .fits) (c .if1 .taken)))
 
 shr-result : tie.Need-shr-result
-shr-result c = search needs
+shr-result c = omega arith
 
 returns-2 : tie.Need-returns-2
 returns-2 c = shift-some (c .before .args .n) (c .before .args .list)

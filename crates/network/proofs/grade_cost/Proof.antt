@@ -1,6 +1,7 @@
 -- `network::grade_cost` meets its contract: the code's table is the definition's.
 -- Assumes nothing.
 use borrow.Author.Needs.{needs}
+use native.Mathlib.Omega.{arith}
 use mathlib.Core.Path.{refl, sym}
 use Rattle.network.specs.Change.{gradeCost, grades}
 use lib.ListN.{List·getD-eq-default}
@@ -12,7 +13,7 @@ unfolding gradeCost
 returns c = sym (List·getD-eq-default grades 0 (c .if1 .taken))
 
 mul-result : tie.Need-mul-result
-mul-result c = search needs
+mul-result c = omega arith
 
 array-read-result : tie.Need-array-read-result
 array-read-result c = search needs

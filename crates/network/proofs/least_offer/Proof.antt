@@ -25,28 +25,28 @@ abbrev μ-loop : tie.MeasureT-loop
 μ-loop costs labels lists receiver n best₀ from₀ s₀ best from s = n - s
 
 add-best : tie.Need-add-best Inv-loop μ-loop
-add-best c = search needs
+add-best c = omega arith
 
 loop-holds : tie.Need-loop-holds Inv-loop μ-loop
 loop-holds c = (least-none _, search needs, λ h. absurd (omega arith), search needs)
 
 mul-offer-of : tie.Need-mul-offer-of Inv-loop μ-loop
-mul-offer-of c = search needs
+mul-offer-of c = omega arith
 
 shared-slice-read-offer-of : tie.Need-shared-slice-read-offer-of Inv-loop μ-loop
-shared-slice-read-offer-of c = search needs
+shared-slice-read-offer-of c = omega arith
 
 mul-offer-of-2 : tie.Need-mul-offer-of-2 Inv-loop μ-loop
-mul-offer-of-2 c = search needs
+mul-offer-of-2 c = omega arith
 
 shared-slice-read-offer-of-2 : tie.Need-shared-slice-read-offer-of-2 Inv-loop μ-loop
-shared-slice-read-offer-of-2 c = search needs
+shared-slice-read-offer-of-2 c = omega arith
 
 mul-offer-of-3 : tie.Need-mul-offer-of-3 Inv-loop μ-loop
-mul-offer-of-3 c = search needs
+mul-offer-of-3 c = omega arith
 
 shared-slice-read-offer-of-3 : tie.Need-shared-slice-read-offer-of-3 Inv-loop μ-loop
-shared-slice-read-offer-of-3 c = search needs
+shared-slice-read-offer-of-3 c = omega arith
 
 offer-of-requires : tie.Need-offer-of-requires Inv-loop μ-loop
 offer-of-requires c κs = search needs
@@ -58,10 +58,10 @@ enum-told : tie.Need-enum-told Inv-loop μ-loop
 enum-told c = search needs
 
 add-s : tie.Need-add-s Inv-loop μ-loop
-add-s c = search needs
+add-s c = omega arith
 
 loop-less : tie.Need-loop-less Inv-loop μ-loop
-loop-less c = search needs
+loop-less c = omega arith
 
 loop-again : tie.Need-loop-again Inv-loop μ-loop
 loop-again c =
@@ -72,10 +72,10 @@ loop-again c =
     (least-skip f (l .s) (l .best) (l .from) (l .inv .0) o, l .inv .1, l .inv .2, omega arith)
 
 add-s-2 : tie.Need-add-s-2 Inv-loop μ-loop
-add-s-2 c = search needs
+add-s-2 c = omega arith
 
 loop-less-2 : tie.Need-loop-less-2 Inv-loop μ-loop
-loop-less-2 c = search needs
+loop-less-2 c = omega arith
 
 loop-again-2 : tie.Need-loop-again-2 Inv-loop μ-loop
 loop-again-2 c =

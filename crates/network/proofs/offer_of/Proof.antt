@@ -24,7 +24,7 @@ returns-3 : tie.Need-returns-3
 returns-3 c = offer-large _ _ _ _ (c .before .before .before .before .if1 .left) (omega (arith, c .before .total .ensures))
 
 cast-t8 : tie.Need-cast-t8
-cast-t8 c = search needs
+cast-t8 c = omega arith
 
 returns-4 : tie.Need-returns-4
 returns-4 c =

@@ -1,6 +1,7 @@
 -- `routing::full_round` meets its contract: every arc heard, and then new rows.
 -- Assumes nothing.
 use borrow.Author.Needs.{needs}
+use native.Mathlib.Omega.{arith}
 use denote.Ref.{now}
 use Rattle.memory.specs.Layout.{view}
 use Rattle.routing.proofs.Hearing.{nodes-same, nodes-kept, nodes-count}
@@ -12,7 +13,7 @@ nodes-requires : tie.Need-nodes-requires
 nodes-requires c κs = search needs
 
 cast-n : tie.Need-cast-n
-cast-n c = search needs
+cast-n c = omega arith
 
 prime-requires : tie.Need-prime-requires
 prime-requires c κs =

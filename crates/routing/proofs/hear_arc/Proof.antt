@@ -9,55 +9,55 @@ use Rattle.routing.proofs.hear_arc.Statement.{statement}
 use Rattle.routing.proofs.hear_arc.Tie as tie
 
 mul-at : tie.Need-mul-at
-mul-at c = search needs
+mul-at c = omega arith
 
 add-at : tie.Need-add-at
-add-at c = search needs
+add-at c = omega arith
 
 add-either : tie.Need-add-either
-add-either c = search needs
+add-either c = omega arith
 
 mul-either : tie.Need-mul-either
-mul-either c = search needs
+mul-either c = omega arith
 
 slice-read-either : tie.Need-slice-read-either
-slice-read-either c = search needs
+slice-read-either c = omega arith
 
 add-either-2 : tie.Need-add-either-2
-add-either-2 c = search needs
+add-either-2 c = omega arith
 
 mul-either-2 : tie.Need-mul-either-2
-mul-either-2 c = search needs
+mul-either-2 c = omega arith
 
 slice-read-either-2 : tie.Need-slice-read-either-2
-slice-read-either-2 c = search needs
+slice-read-either-2 c = omega arith
 
 either-requires : tie.Need-either-requires
 either-requires c κs = search needs
 
 add-net : tie.Need-add-net
-add-net c = search needs
+add-net c = omega arith
 
 mul-net : tie.Need-mul-net
-mul-net c = search needs
+mul-net c = omega arith
 
 slice-write-net : tie.Need-slice-write-net
-slice-write-net c = search needs
+slice-write-net c = omega arith
 
 add-either-3 : tie.Need-add-either-3
-add-either-3 c = search needs
+add-either-3 c = omega arith
 
 mul-either-3 : tie.Need-mul-either-3
-mul-either-3 c = search needs
+mul-either-3 c = omega arith
 
 slice-read-either-3 : tie.Need-slice-read-either-3
 slice-read-either-3 c = simp length-set (omega arith)
 
 add-either-4 : tie.Need-add-either-4
-add-either-4 c = search needs
+add-either-4 c = omega arith
 
 mul-either-4 : tie.Need-mul-either-4
-mul-either-4 c = search needs
+mul-either-4 c = omega arith
 
 slice-read-either-4 : tie.Need-slice-read-either-4
 slice-read-either-4 c = simp length-set (omega arith)
@@ -66,10 +66,10 @@ either-requires-2 : tie.Need-either-requires-2
 either-requires-2 c κs = search needs
 
 add-net-2 : tie.Need-add-net-2
-add-net-2 c = search needs
+add-net-2 c = omega arith
 
 mul-net-2 : tie.Need-mul-net-2
-mul-net-2 c = search needs
+mul-net-2 c = omega arith
 
 slice-write-net-2 : tie.Need-slice-write-net-2
 slice-write-net-2 c = simp length-set (omega arith)

@@ -63,10 +63,10 @@ hear-arc-requires c κs =
     )
 
 add-s : tie.Need-add-s Inv-loop μ-loop
-add-s c = search needs
+add-s c = omega arith
 
 loop-less : tie.Need-loop-less Inv-loop μ-loop
-loop-less c = search needs
+loop-less c = omega arith
 
 loop-again : tie.Need-loop-again Inv-loop μ-loop
 loop-again c =

@@ -43,10 +43,10 @@ hear-arc-row-requires c κs =
     )
 
 add-r : tie.Need-add-r Inv-loop μ-loop
-add-r c = search needs
+add-r c = omega arith
 
 loop-less : tie.Need-loop-less Inv-loop μ-loop
-loop-less c = search needs
+loop-less c = omega arith
 
 loop-again : tie.Need-loop-again Inv-loop μ-loop
 loop-again c =

@@ -25,8 +25,7 @@ loop-holds c =
     let p = c .before .before .pre in (
       hears-first (wordMarks (now (a .marks)) (a .n) 0) (now (a .net)) (p .1 .0) (words-none (now (a .marks)) (a .n)),
       p .0,
-      search
-          needs,
+      search needs,
     )
 
 mul-hear-row : tie.Need-mul-hear-row Inv-loop μ-loop
@@ -53,10 +52,10 @@ hear-row-requires c κs =
     )
 
 add-r : tie.Need-add-r Inv-loop μ-loop
-add-r c = search needs
+add-r c = omega arith
 
 loop-less : tie.Need-loop-less Inv-loop μ-loop
-loop-less c = search needs
+loop-less c = omega arith
 
 loop-again : tie.Need-loop-again Inv-loop μ-loop
 loop-again c =

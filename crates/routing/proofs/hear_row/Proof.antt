@@ -26,8 +26,7 @@ loop-holds c =
     let p = c .before .pre in (
       hears-first (rowMarks (a .receiver) (a .word) 0) (now (a .net)) (p .1 .0) (row-none (a .receiver) (a .word)),
       p .0,
-      search
-          needs,
+      search needs,
     )
 
 cast-listed : tie.Need-cast-listed Inv-loop μ-loop
@@ -54,10 +53,10 @@ hear-arc-requires c κs =
     )
 
 add-s : tie.Need-add-s Inv-loop μ-loop
-add-s c = search needs
+add-s c = omega arith
 
 loop-less : tie.Need-loop-less Inv-loop μ-loop
-loop-less c = search needs
+loop-less c = omega arith
 
 loop-again : tie.Need-loop-again Inv-loop μ-loop
 loop-again c =

@@ -23,10 +23,10 @@ unfolding idleRows some
 loop-holds c = (refl, omega arith)
 
 mul-idle-row : tie.Need-mul-idle-row Inv-loop μ-loop
-mul-idle-row c = search needs
+mul-idle-row c = omega arith
 
 shared-slice-read-idle-row : tie.Need-shared-slice-read-idle-row Inv-loop μ-loop
-shared-slice-read-idle-row c = search needs
+shared-slice-read-idle-row c = omega arith
 
 idle-row-requires : tie.Need-idle-row-requires Inv-loop μ-loop
 idle-row-requires c κs = search needs
@@ -35,10 +35,10 @@ or-requires : tie.Need-or-requires Inv-loop μ-loop
 or-requires c κs = search needs
 
 add-r : tie.Need-add-r Inv-loop μ-loop
-add-r c = search needs
+add-r c = omega arith
 
 loop-less : tie.Need-loop-less Inv-loop μ-loop
-loop-less c = search needs
+loop-less c = omega arith
 
 loop-again : tie.Need-loop-again Inv-loop μ-loop
 unfolding idleRows some

@@ -21,7 +21,7 @@ abbrev μ-loop : tie.MeasureT-loop
 μ-loop net₀ n origin r₀ net r = n - r
 
 slice-read-origin : tie.Need-slice-read-origin Inv-loop μ-loop
-slice-read-origin c = search needs
+slice-read-origin c = omega arith
 
 cast-origin : tie.Need-cast-origin Inv-loop μ-loop
 cast-origin c = omega (arith, c .slice-known2 .given 1)
@@ -49,10 +49,10 @@ renew-row-requires c κs =
     )
 
 add-r : tie.Need-add-r Inv-loop μ-loop
-add-r c = search needs
+add-r c = omega arith
 
 loop-less : tie.Need-loop-less Inv-loop μ-loop
-loop-less c = search needs
+loop-less c = omega arith
 
 loop-again : tie.Need-loop-again Inv-loop μ-loop
 loop-again c =
@@ -70,8 +70,7 @@ loop-again c =
     (λ v. (
       ap view (v .1) ∙ l .inv .0 ∙ renewed-origin x (l .r) (v .0 .left ∙ read-first w),
       ap length (v .1) ∙ l .inv .1,
-      omega
-          arith,
+      omega arith,
     )) (c .if1 .came)
 
 same-length : tie.Need-same-length Inv-loop μ-loop

@@ -29,7 +29,7 @@ returns-2 c =
     (c .before .before .before .before .if1 .left) (sym (c .before .stray-marks .ensures) ∙ c .if2 .taken)
 
 cast-k : tie.Need-cast-k
-cast-k c = search needs
+cast-k c = omega arith
 
 idle-marks-requires : tie.Need-idle-marks-requires
 idle-marks-requires c κs =

@@ -9,28 +9,28 @@ use Rattle.routing.proofs.store_row.Statement.{statement}
 use Rattle.routing.proofs.store_row.Tie as tie
 
 add-net : tie.Need-add-net
-add-net c = search needs
+add-net c = omega arith
 
 mul-net : tie.Need-mul-net
-mul-net c = search needs
+mul-net c = omega arith
 
 slice-write-net : tie.Need-slice-write-net
-slice-write-net c = search needs
+slice-write-net c = omega arith
 
 add-net-2 : tie.Need-add-net-2
-add-net-2 c = search needs
+add-net-2 c = omega arith
 
 mul-net-2 : tie.Need-mul-net-2
-mul-net-2 c = search needs
+mul-net-2 c = omega arith
 
 slice-write-net-2 : tie.Need-slice-write-net-2
 slice-write-net-2 c = simp length-set (omega arith)
 
 add-net-3 : tie.Need-add-net-3
-add-net-3 c = search needs
+add-net-3 c = omega arith
 
 mul-net-3 : tie.Need-mul-net-3
-mul-net-3 c = search needs
+mul-net-3 c = omega arith
 
 slice-write-net-3 : tie.Need-slice-write-net-3
 slice-write-net-3 c = simp length-set (omega arith)

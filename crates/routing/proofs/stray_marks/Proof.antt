@@ -22,13 +22,13 @@ unfolding strayRows some
 loop-holds c = (refl, omega arith)
 
 cast-stray-row : tie.Need-cast-stray-row Inv-loop μ-loop
-cast-stray-row c = search needs
+cast-stray-row c = omega arith
 
 mul-stray-row : tie.Need-mul-stray-row Inv-loop μ-loop
-mul-stray-row c = search needs
+mul-stray-row c = omega arith
 
 shared-slice-read-stray-row : tie.Need-shared-slice-read-stray-row Inv-loop μ-loop
-shared-slice-read-stray-row c = search needs
+shared-slice-read-stray-row c = omega arith
 
 stray-row-requires : tie.Need-stray-row-requires Inv-loop μ-loop
 stray-row-requires c κs = search needs
@@ -37,10 +37,10 @@ or-requires : tie.Need-or-requires Inv-loop μ-loop
 or-requires c κs = search needs
 
 add-r : tie.Need-add-r Inv-loop μ-loop
-add-r c = search needs
+add-r c = omega arith
 
 loop-less : tie.Need-loop-less Inv-loop μ-loop
-loop-less c = search needs
+loop-less c = omega arith
 
 loop-again : tie.Need-loop-again Inv-loop μ-loop
 unfolding strayRows some
