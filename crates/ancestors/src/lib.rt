@@ -1,6 +1,6 @@
 // Ancestor lists as 32-bit words: whether a node is listed, a list with a node more, and its hops.
 //
-// No function has a `requires`: a node above 31 is in no list and joins none.
+// No function has a precondition: a node above 31 is in no list and joins none.
 ghost use mathlib.Core.Path.{_≡_};
 ghost use mathlib.Core.Bool.{cond};
 ghost use lib.Dec.{ltb};

@@ -1,7 +1,7 @@
 // A network in words that the caller lends: fresh networks, changes and grades, and the reading and placing of arcs, rows and reports.
 //
 // Contracts go through `view`, the network that the words give (specs/Layout.antt), and hold for any words. A refused call leaves every
-// word as it stood. No public function has a `requires`.
+// word as it stood. No public function has a precondition.
 ghost use mathlib.Core.Path.{_≡_};
 ghost use mathlib.Core.Bool.{_||_, cond};
 ghost use Prim.Native.Nat.{_<_, _≤_};

@@ -1,7 +1,7 @@
 // The ancestor-list rule on numbers and slices: the offer of a held report, the choice among offers, and the cost of a grade.
 //
 // specs/ has document 01's definitions; the calls on a whole network are in the crate `routing`.
-// No public function has a `requires`.
+// No public function has a precondition.
 ghost use mathlib.Core.Path.{_≡_};
 ghost use Prim.Native.Nat.{_+_, _^_, _<_, _≤_};
 ghost use lib.Dec.{leb};

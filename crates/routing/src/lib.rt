@@ -1,7 +1,7 @@
 // Rounds on a network in words that the caller lends: hearing, offers and new rows.
 //
 // Contracts go through `memory`'s `view` and hold for any words. A refused round leaves every word as it stood. No public function has a
-// `requires`; the private ones require the number of words and what their callers have tested.
+// precondition; the private ones ask for the number of words and for what their callers have tested.
 use memory::COSTS;
 use memory::HELD_LABELS;
 use memory::HELD_LISTS;
