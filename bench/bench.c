@@ -6,7 +6,7 @@
 
 extern uint8_t bench_change(uint32_t *net, uint32_t sender, uint32_t receiver, uint32_t cost);
 extern uint8_t bench_round(uint32_t *net, const uint32_t *marks, uint64_t count);
-extern void bench_full_round(uint32_t *net);
+extern uint8_t bench_full_round(uint32_t *net);
 
 static uint32_t words[3200];
 static struct plain_net plain;

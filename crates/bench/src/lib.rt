@@ -1,6 +1,5 @@
 // The round calls under C names, for the benchmark in bench/. Each is the call itself, with its contract.
 use memory::Network;
-ghost use mathlib.Core.Path.{_≡_};
 ghost use Rattle.network.specs.Round.{roundOf, fullRoundOf};
 ghost use Rattle.network.specs.Change.{changeOf};
 ghost use Rattle.memory.specs.Layout.{view};
@@ -21,8 +20,8 @@ pub extern "C" fn bench_round(net: &mut Network, marks: &[u32]) -> u8
 }
 
 #[no_mangle]
-pub extern "C" fn bench_full_round(net: &mut Network)
-    ensures { λ _. ⌜ view (now (net .exit)) ≡ fullRoundOf (view (now (net .entry))) .net ⌝ }
+pub extern "C" fn bench_full_round(net: &mut Network) -> u8
+    ensures { λ k. ⌜ Leaves (fullRoundOf (view (now (net .entry)))) k (now (net .entry)) (now (net .exit)) ⌝ }
 {
     routing::full_round(net)
 }

@@ -9,7 +9,6 @@ use native.Mathlib.Omega.{arith}
 use lib.ListN.{length}
 use borrow.Author.Tests.{eq-eqb, ne-eqb}
 use Rattle.network.specs.Round.{marked, everyArc, hear, renew, round, strayMark, idleMark, roundNumber, roundOf, fullRoundOf}
-use Rattle.network.proofs.Effects.{accepted-net}
 use Rattle.memory.specs.Layout.{view}
 use Rattle.routing.specs.Inner.{Hears, wordMarks, strayRows, idleRows}
 use Rattle.memory.specs.Answers.{Leaves}
@@ -54,7 +53,6 @@ module _ (xs ms : List ℕ) where
 
 -- a round with every arc heard
 pub full-round-done : (xs ps ys zs : List ℕ) → Hears ps (view xs) → Hears ys (hear (everyArc (view ps)) (view ps)) → view zs ≡ renew (view ys)
-    → view zs ≡ fullRoundOf (view xs) .net
+    → Leaves (fullRoundOf (view xs)) 0 xs zs
 unfolding fullRoundOf round
-full-round-done xs ps ys zs p q v =
-    v ∙ ap renew (q .net ∙ ap (λ x. hear (everyArc x) x) (p .net)) ∙ sym (accepted-net 0 (renew (hear (everyArc (view xs)) (view xs))) (view xs) refl)
+full-round-done xs ps ys zs p q v = leaves-accepted 0 _ xs zs refl (v ∙ ap renew (q .net ∙ ap (λ x. hear (everyArc x) x) (p .net)))

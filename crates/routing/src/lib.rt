@@ -275,12 +275,13 @@ pub fn round(net: &mut Network, marks: &[u32]) -> u8
     0
 }
 
-// A round with every arc heard. It is never refused.
-pub fn full_round(net: &mut Network)
-    ensures { λ _. ⌜ view (now (net .exit)) ≡ fullRoundOf (view (now (net .entry))) .net ⌝ }
+// A round with every arc heard. It is never refused: it answers 0.
+pub fn full_round(net: &mut Network) -> u8
+    ensures { λ k. ⌜ Leaves (fullRoundOf (view (now (net .entry)))) k (now (net .entry)) (now (net .exit)) ⌝ }
 {
     let n = memory::nodes(net) as usize;
     prime(net, n);
     hear_arcs(net, n);
     renew_rows(net, n);
+    0
 }

@@ -1,7 +1,6 @@
 -- `routing::full_round` meets its contract: every arc heard, and then new rows.
 -- Assumes nothing.
 use borrow.Author.Needs.{needs}
-use native.Mathlib.Omega.{arith}
 use denote.Ref.{now}
 use Rattle.memory.specs.Layout.{view}
 use Rattle.routing.proofs.Hearing.{nodes-same, nodes-kept, nodes-count}
@@ -13,7 +12,7 @@ nodes-requires : tie.Need-nodes-requires
 nodes-requires c κs = search needs
 
 cast-n : tie.Need-cast-n
-cast-n c = omega arith
+cast-n c = search needs
 
 prime-requires : tie.Need-prime-requires
 prime-requires c κs =
