@@ -22,6 +22,7 @@ own i = put 0 i
 unfoldable pub hops : ℕ → ℕ
 hops l = ones l - 1
 
+-- 1 for a test that passes
 abbrev pub one : Bool → ℕ
 one true = 1
 one false = 0

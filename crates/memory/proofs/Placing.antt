@@ -11,7 +11,8 @@ use borrow.Author.Tests.{ne-eqb}
 use Rattle.ancestors.specs.Ancestors.{has}
 use Rattle.ancestors.proofs.Cases.{never}
 use Rattle.ancestors.proofs.Laws.{has-empty}
-use Rattle.network.specs.Network.{via, told, withRow, withHeld, placeRowNumber, placeRowOf, placeReportNumber, placeReportOf}
+use Rattle.network.specs.Network.{via, told, withRow, withHeld}
+use Rattle.network.specs.Placing.{placeRowNumber, placeRowOf, placeReportNumber, placeReportOf}
 use Rattle.network.specs.Words.{reportOf}
 use Rattle.network.proofs.Accepting.{place-row-accepted, place-report-accepted}
 use Rattle.network.proofs.FaultLaws.{node-says, pair-says, row-says, report-says}

@@ -17,7 +17,8 @@ use Rattle.network.specs.Words.{reportOf}
 use Rattle.memory.specs.Layout.{rowOf, rowAt, netOf, look, view, arcCosts, heldLists, rowLists}
 use Rattle.memory.specs.Inner.{Blank}
 use Rattle.memory.specs.Answers.{Starts}
-use Rattle.memory.proofs.Store.{same-net, word-zero, cell-zero}
+use Rattle.network.proofs.Effects.{same-net}
+use Rattle.memory.proofs.Store.{word-zero, cell-zero}
 use Rattle.memory.proofs.Leaving.{starts-refused, starts-accepted}
 
 zero-at : (n k : ℕ) → getD {A = ℕ} (replicate n 0) k 0 ≡ 0

@@ -12,17 +12,13 @@ use lib.Seq.{getD-set-same, getD-set-other}
 use borrow.Author.Tests.{lt-ltb, le-ltb, eq-eqb, ne-eqb}
 use Rattle.ancestors.specs.Ancestors.{own}
 use Rattle.ancestors.proofs.Cases.{le-or-lt, eq-or-ne, eqb-same}
-use Rattle.network.specs.Network.{root, Report, Net, setPair, setAt, withCost, withHeld, withRow}
+use Rattle.network.specs.Network.{root, Report, setPair, setAt, withCost, withHeld, withRow}
 use Rattle.network.specs.Faults.{pairFault}
 use Rattle.network.specs.Words.{reportOf}
 use Rattle.network.proofs.FaultLaws.{pair-says}
+use Rattle.network.proofs.Effects.{same-net}
 use Rattle.memory.specs.Inner.{Node}
 use Rattle.memory.specs.Layout.{words, word, cell, rowOf, rowAt, netOf, look, view, arcCosts, heldLabels, heldLists, rowLabels, rowLists, rowPredecessors}
-
--- two networks with the same parts are one
-pub same-net : (x z : Net) → x .nodes ≡ z .nodes → x .origin ≡ z .origin → ((s r : ℕ) → x .cost s r ≡ z .cost s r)
-    → ((y : ℕ) → x .row y ≡ z .row y) → ((s r : ℕ) → x .held s r ≡ z .held s r) → x ≡ z
-same-net x z n o c p q = λ i. record { nodes = n i; origin = o i; cost = λ s r. c s r i; row = λ y. p y i; held = λ s r. q s r i }
 
 -- a network has at most 32 nodes
 pub few : (xs : List ℕ) → view xs .nodes ≤ 32

@@ -43,6 +43,7 @@ unfoldable pub readRow : Net → ℕ → RowAnswer
 readRow x y =
     cond (nodeFault (x .nodes) y) (record { number = 3; row = none; hops = 0 }) (record { number = 0; row = x .row y; hops = rowHops (x .row y) })
 
+-- number, row and hops of each case of the enum
 unfoldable pub rowMeans : RowRead → RowAnswer
 rowMeans R.Refused = record { number = 3; row = none; hops = 0 }
 rowMeans R.NoRoute = record { number = 0; row = none; hops = 0 }
@@ -59,6 +60,7 @@ pub record CostAnswer : Type 0 where
 unfoldable pub readCost : Net → ℕ → ℕ → CostAnswer
 readCost x s r = cond (pairFault (x .nodes) s r) (record { number = 3; cost = 0 }) (record { number = 0; cost = x .cost s r })
 
+-- the number and the cost answered
 unfoldable pub costMeans : CostRead → CostAnswer
 costMeans r = record { number = r .number; cost = r .cost }
 
@@ -72,6 +74,7 @@ pub record HeldAnswer : Type 0 where
 unfoldable pub readHeld : Net → ℕ → ℕ → HeldAnswer
 readHeld x s r = cond (pairFault (x .nodes) s r) (record { number = 3; held = empty }) (record { number = 0; held = x .held s r })
 
+-- number and report of each case of the enum
 unfoldable pub heldMeans : HeldRead → HeldAnswer
 heldMeans H.Refused = record { number = 3; held = empty }
 heldMeans H.Empty = record { number = 0; held = empty }

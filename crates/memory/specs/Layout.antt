@@ -63,6 +63,7 @@ netOf n origin f =
       held = λ s r. reportOf (cell n f heldLabels s r) (cell n f heldLists s r);
     }
 
+-- the word at k
 abbrev pub look : List ℕ → ℕ → ℕ
 look xs k = getD xs k 0
 

@@ -6,7 +6,8 @@ use Prim.Native.Nat.{ℕ, suc}
 use native.Mathlib.Omega.{arith}
 use Rattle.ancestors.proofs.Cases.{or-neither}
 use Rattle.network.specs.Faults.{sizeFault, nodeFault, pairFault, costFault, gradeFault, rowFault, reportFault}
-use Rattle.network.specs.Network.{Net, freshNumber, placeRowNumber, placeReportNumber}
+use Rattle.network.specs.Network.{Net, freshNumber}
+use Rattle.network.specs.Placing.{placeRowNumber, placeReportNumber}
 use Rattle.network.specs.Change.{changeNumber, gradeNumber}
 
 -- a call with one test, and a call with two

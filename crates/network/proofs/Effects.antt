@@ -16,6 +16,11 @@ use Rattle.network.specs.Change.{changed, changeNumber, changeOf, gradeC
 use Rattle.network.proofs.FaultLaws.{cost-free, grade-free}
 use Rattle.network.proofs.Grades.{grade-small}
 
+-- two networks with the same parts are one
+pub same-net : (x z : Net) → x .nodes ≡ z .nodes → x .origin ≡ z .origin → ((s r : ℕ) → x .cost s r ≡ z .cost s r)
+    → ((y : ℕ) → x .row y ≡ z .row y) → ((s r : ℕ) → x .held s r ≡ z .held s r) → x ≡ z
+same-net x z n o c p q = λ i. record { nodes = n i; origin = o i; cost = λ s r. c s r i; row = λ y. p y i; held = λ s r. q s r i }
+
 -- ---- outcomes
 
 pub outcome-number : (k : ℕ) (next x : Net) → outcome k next x .number ≡ k

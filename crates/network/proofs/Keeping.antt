@@ -9,7 +9,8 @@ use native.Mathlib.Omega.{arith}
 use Rattle.ancestors.specs.Ancestors.{own}
 use Rattle.ancestors.proofs.Cases.{eq-or-ne}
 use Rattle.network.specs.Faults.{maxCost, sizeFault, nodeFault, pairFault, rowFault, reportFault}
-use Rattle.network.specs.Network.{root, via, told, Net, Within, outcome, freshNet, freshNumber, freshOf, placeRowNumber, placeRowOf, placeReportNumber, placeReportOf, withRow, withHeld}
+use Rattle.network.specs.Network.{root, via, told, Net, Within, outcome, freshNet, freshNumber, freshOf, withRow, withHeld}
+use Rattle.network.specs.Placing.{placeRowNumber, placeRowOf, placeReportNumber, placeReportOf}
 use Rattle.network.specs.Round.{marked, round, roundNumber, roundOf, everyArc, fullRoundOf}
 use Rattle.network.specs.Change.{changed, changeNumber, changeOf, gradeCost, gradeNumber, gradeOf}
 use Rattle.network.proofs.Distinct.{root-via, none-root, none-via, empty-told}

@@ -2,4 +2,5 @@ pub mod Faults
 pub mod Network
 pub mod Round
 pub mod Change
+pub mod Placing
 pub mod Words

@@ -34,6 +34,7 @@ setAt f y v a = cond (eqb a y) v (f a)
 unfoldable pub setPair : {A : Type 0} → (ℕ → ℕ → A) → ℕ → ℕ → A → ℕ → ℕ → A
 setPair f s r v a b = cond (eqb a s && eqb b r) v (f a b)
 
+-- x with another cost, row or held report
 unfoldable pub withCost : Net → ℕ → ℕ → ℕ → Net
 withCost x s r c = record { nodes = x .nodes; origin = x .origin; cost = setPair (x .cost) s r c; row = x .row; held = x .held }
 
@@ -65,26 +66,13 @@ freshNet n origin =
       held = λ s r. empty;
     }
 
+-- 3 for bad numbers
 unfoldable pub freshNumber : ℕ → ℕ → ℕ
 freshNumber n origin = cond (sizeFault n origin) 3 0
 
 -- refused, the call gives the fresh network of one node
 unfoldable pub freshOf : ℕ → ℕ → Outcome
 freshOf n origin = outcome (freshNumber n origin) (freshNet n origin) (freshNet 1 0)
-
--- ---- a row or a report set as it is read
-
-unfoldable pub placeRowNumber : Net → ℕ → ℕ → ℕ → ℕ → ℕ
-placeRowNumber x y d p l = cond (nodeFault (x .nodes) y) 3 (cond (rowFault (x .nodes) (x .origin) y d p l) 5 0)
-
-unfoldable pub placeRowOf : Net → ℕ → ℕ → ℕ → ℕ → Outcome
-placeRowOf x y d p l = outcome (placeRowNumber x y d p l) (withRow x y (via d p l)) x
-
-unfoldable pub placeReportNumber : Net → ℕ → ℕ → ℕ → ℕ → ℕ
-placeReportNumber x s r d l = cond (pairFault (x .nodes) s r) 3 (cond (reportFault (x .nodes) (x .cost s r) s d l) 5 0)
-
-unfoldable pub placeReportOf : Net → ℕ → ℕ → ℕ → ℕ → Outcome
-placeReportOf x s r d l = outcome (placeReportNumber x s r d l) (withHeld x s r (told d l)) x
 
 -- ---- within limits
 pub record Within (x : Net) : Type 0 where

@@ -83,6 +83,7 @@ renewTo k x =
       held = x .held;
     }
 
+-- every node but the origin gets a new row
 unfoldable pub renew : Net → Net
 unfolding renewTo
 renew x = renewTo (x .nodes) x
@@ -110,10 +111,12 @@ strayMark n m = some (λ r. some (λ s. m s r && pairFault n s r) 32) 32
 unfoldable pub idleMark : (ℕ → ℕ → ℕ) → Marks → Bool
 idleMark cost m = some (λ r. some (λ s. m s r && eqb (cost s r) 0) 32) 32
 
+-- 1 for marks that are not 32 words, then 3, then 7
 unfoldable pub roundNumber : Net → List ℕ → ℕ
 roundNumber x ms =
     cond (not (eqb (length ms) 32)) 1 (cond (strayMark (x .nodes) (marked ms)) 3 (cond (idleMark (x .cost) (marked ms)) 7 0))
 
+-- accepted, a round with these marks
 unfoldable pub roundOf : Net → List ℕ → Outcome
 roundOf x ms = outcome (roundNumber x ms) (round (marked ms) x) x
 

@@ -32,12 +32,14 @@ pub record ChoiceAnswer : Type 0 where
   pub number : ℕ
   pub row : Row
 
+-- refused as 3, and a row chosen
 abbrev pub refusedChoice : ChoiceAnswer
 refusedChoice = record { number = 3; row = none }
 
 abbrev pub chosen : Row → ChoiceAnswer
 chosen w = record { number = 0; row = w }
 
+-- the choice from these words
 unfoldable pub chooseOf : List ℕ → List ℕ → List ℕ → ℕ → ChoiceAnswer
 chooseOf costs labels lists y =
     cond (wordsFault costs labels lists y) refusedChoice (chosen (choice (length costs) (costsOf costs) (reports labels lists) y))

@@ -19,7 +19,8 @@ use Rattle.network.specs.Words.{reportOf}
 use Rattle.memory.specs.Layout.{words, rowOf, look, view, arcCosts, heldLabels, heldLists, rowLabels, rowLists, rowPredecessors}
 use Rattle.memory.specs.Inner.{Node}
 use Rattle.routing.specs.Inner.{Nodes, Primed, Hears, oneMark, rowMarks, wordMarks, arcRow, arcMarks}
-use Rattle.memory.proofs.Store.{same-net, few, cost-beyond, read-held, read-relay, read-origin, store-report, store-origin}
+use Rattle.network.proofs.Effects.{same-net}
+use Rattle.memory.proofs.Store.{few, cost-beyond, read-held, read-relay, read-origin, store-report, store-origin}
 
 -- ---- laws of hearing
 

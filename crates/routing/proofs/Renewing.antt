@@ -21,7 +21,8 @@ use Rattle.network.proofs.Choosing.{choice-ext, came}
 use Rattle.memory.specs.Layout.{words, rowOf, look, view, arcCosts, heldLabels, heldLists}
 use Rattle.memory.specs.Inner.{Node}
 use Rattle.routing.specs.Inner.{Nodes}
-use Rattle.memory.proofs.Store.{same-net, few, read-cost, read-held}
+use Rattle.network.proofs.Effects.{same-net}
+use Rattle.memory.proofs.Store.{few, read-cost, read-held}
 
 -- ---- the words of one receiver
 

@@ -51,6 +51,7 @@ arcMarks x k s y = ltb y k && ltb 0 (x .cost s y)
 unfoldable pub strayRow : ℕ → ℕ → ℕ → Bool
 strayRow n r w = some (λ s. has w s && pairFault n s r) 32
 
+-- of a receiver below k
 unfoldable pub strayRows : ℕ → List ℕ → ℕ → Bool
 strayRows n ms k = some (λ r. strayRow n r (getD ms r 0)) k
 
@@ -58,5 +59,6 @@ strayRows n ms k = some (λ r. strayRow n r (getD ms r 0)) k
 unfoldable pub idleRow : Net → ℕ → ℕ → ℕ → Bool
 idleRow x r w k = some (λ s. has w s && eqb (x .cost s r) 0) k
 
+-- of a receiver below k, on any node
 unfoldable pub idleRows : Net → List ℕ → ℕ → Bool
 idleRows x ms k = some (λ r. idleRow x r (getD ms r 0) (x .nodes)) k

@@ -8,7 +8,8 @@ use native.Mathlib.Omega.{arith}
 use lib.ListN.{replicate}
 use Rattle.ancestors.specs.Ancestors.{has, put}
 use Rattle.network.specs.Faults.{sizeFault, nodeFault, pairFault, costFault, gradeFault, originFault, rowLabelFault, reportLabelFault, predecessorFault, listFault, arcFault, rowFault, reportFault}
-use Rattle.network.specs.Network.{via, Net, setAt, setPair, withCost, withRow, withHeld, outcome, freshNet, freshNumber, freshOf, placeRowNumber, placeRowOf, placeReportNumber, placeReportOf, Within}
+use Rattle.network.specs.Network.{via, Net, setAt, setPair, withCost, withRow, withHeld, outcome, freshNet, freshNumber, freshOf, Within}
+use Rattle.network.specs.Placing.{placeRowNumber, placeRowOf, placeReportNumber, placeReportOf}
 use Rattle.network.specs.Round.{report, hear, offer, against, winner, listOf, rowBy, choice, renewTo, renew, marked, some, strayMark, idleMark, roundNumber, roundOf, everyArc, fullRoundOf, round as playRound}
 use Rattle.network.specs.Change.{changed, changeNumber, changeOf, gradeCost, gradeNumber, gradeOf}
 use Rattle.network.proofs.Keeping.{fresh-within, change-within, place-row-within, place-report-within}

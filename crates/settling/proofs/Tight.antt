@@ -10,7 +10,8 @@ use lib.Dec.{eqb}
 use lib.ListN.{replicate}
 use Rattle.ancestors.specs.Ancestors.{has, put}
 use Rattle.network.specs.Faults.{sizeFault, pairFault, costFault, reportLabelFault, listFault, arcFault, reportFault}
-use Rattle.network.specs.Network.{via, Net, setPair, withCost, withHeld, outcome, freshNet, freshNumber, freshOf, placeReportNumber, placeReportOf, Within}
+use Rattle.network.specs.Network.{via, Net, setPair, withCost, withHeld, outcome, freshNet, freshNumber, freshOf, Within}
+use Rattle.network.specs.Placing.{placeReportNumber, placeReportOf}
 use Rattle.network.specs.Round.{report, hear, offer, against, winner, listOf, rowBy, choice, renewTo, renew, marked, some, strayMark, idleMark, roundNumber, roundOf, round as playRound}
 use Rattle.network.specs.Change.{changed, changeNumber, changeOf}
 use Rattle.network.proofs.Limits.{within-size, within-arc}

@@ -25,6 +25,7 @@ called x (grade s r g) = gradeOf x s r g
 called x (round ms) = roundOf x ms
 called x fullRound = fullRoundOf x
 
+-- a call is accepted if its number is 0
 unfoldable pub accepted : Net → Call → Bool
 accepted x c = eqb (called x c .number) 0
 
@@ -33,6 +34,7 @@ unfoldable pub after : Net → List Call → Net
 after x [] = x
 after x (c ∷ cs) = after (called x c .net) cs
 
+-- change and grade calls
 abbrev pub alters : Call → Bool
 alters (change s r c) = true
 alters (grade s r g) = true

@@ -5,7 +5,7 @@ use mathlib.Core.Bool.{true, false}
 use mathlib.Core.Path.{_≡_, sym, _∙_}
 use denote.Ref.{now}
 use Rattle.network.specs.Faults.{pairFault, reportFault}
-use Rattle.network.specs.Network.{placeReportNumber}
+use Rattle.network.specs.Placing.{placeReportNumber}
 use Rattle.memory.specs.Layout.{view}
 use Rattle.memory.proofs.Store.{sender-node, receiver-node, pair-tested}
 use Rattle.memory.proofs.report_number.Statement.{statement}

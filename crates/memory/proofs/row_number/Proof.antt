@@ -8,7 +8,7 @@ use mathlib.Core.Path.{_≡_, sym, _∙_}
 use denote.Ref.{now}
 use borrow.Author.Tests.{le-leb}
 use Rattle.network.specs.Faults.{nodeFault, rowFault}
-use Rattle.network.specs.Network.{placeRowNumber}
+use Rattle.network.specs.Placing.{placeRowNumber}
 use Rattle.network.proofs.FaultLaws.{node-free}
 use Rattle.memory.specs.Layout.{view}
 use Rattle.memory.proofs.Store.{read-first}
