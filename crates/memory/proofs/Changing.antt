@@ -1,16 +1,15 @@
--- What a change or a grade leaves, from the words stored.
+-- What a change or a grade leaves, from its tests and the words stored.
 -- Assumes nothing.
 use mathlib.Core.Path.{_≡_, refl, ap, _∙_}
 use mathlib.Core.Bool.{Bool, true, false, cond, _||_}
 use mathlib.Core.List.{List}
-use Prim.Native.Nat.{ℕ, _+_, _*_, _<_, _≤_}
+use Prim.Native.Nat.{ℕ, _+_, _*_, _<_}
 use native.Mathlib.Omega.{arith}
 use lib.Dec.{eqb}
 use lib.ListN.{length, set}
-use borrow.Author.Tests.{lt-ltb, le-ltb}
-use Rattle.network.specs.Faults.{pairFault, costFault, gradeFault}
-use Rattle.network.specs.Network.{empty, withCost, withHeld}
-use Rattle.network.specs.Change.{changed, changeNumber, changeOf, gradeCost, gradeNumber, gradeOf}
+use Rattle.network.specs.Faults.{pairFault}
+use Rattle.network.specs.Network.{empty, Net, withCost, withHeld, outcome}
+use Rattle.network.specs.Change.{changed}
 use Rattle.network.specs.Words.{reportOf}
 use Rattle.memory.specs.Layout.{words, look, view, arcCosts, heldLabels, heldLists}
 use Rattle.memory.specs.Answers.{Leaves}
@@ -38,31 +37,16 @@ change-words xs size s r c l hs hr e = store-arc xs size s r hs hr c l ∙ ap (w
         ∙ emptied (eqb c 0 || eqb (look xs (arcCosts + at)) 0) (look xs (heldLabels + at)) (look xs (heldLists + at))
         ∙ (λ j. cond (eqb c 0 || eqb (read-cost xs s r hs hr j) 0) empty (read-held xs s r hs hr j))
 
-module _ (xs : List ℕ) (n s r : ℕ) (is : n ≡ view xs .nodes) where
-  module _ (c : ℕ) where
-    pub change-pair : pairFault n s r ≡ true → Leaves (changeOf (view xs) s r c) 3 xs xs
-    unfolding changeOf changeNumber
-    change-pair e = leaves-refused 3 _ _ xs (rw (← is, e)) (λ z. omega arith)
+-- what a call leaves that is refused as 3 for a bad pair or a bad value b, and else gives the network next: a change, or a grade
+module _ (xs : List ℕ) (n s r : ℕ) (is : n ≡ view xs .nodes) (b : Bool) (next : Net) where
+  abbrev number : ℕ
+  number = cond (pairFault (view xs .nodes) s r || b) 3 0
 
-    pub change-cost : pairFault n s r ≡ false → 65535 < c → Leaves (changeOf (view xs) s r c) 3 xs xs
-    unfolding changeOf changeNumber costFault
-    change-cost e h = leaves-refused 3 _ _ xs (rw (← is, e, lt-ltb 65535 c h)) (λ z. omega arith)
+  pub arc-pair : pairFault n s r ≡ true → Leaves (outcome number next (view xs)) 3 xs xs
+  arc-pair e = leaves-refused 3 _ next xs (rw (← is, e)) (λ z. omega arith)
 
-    pub change-done : (ys : List ℕ) → pairFault n s r ≡ false → c ≤ 65535 → view ys ≡ changed (view xs) s r c → Leaves
-        (changeOf (view xs) s r c) 0 xs ys
-    unfolding changeOf changeNumber costFault
-    change-done ys e h v = leaves-accepted _ _ xs ys (rw (← is, e, le-ltb 65535 c h)) v
+  pub arc-value : pairFault n s r ≡ false → b ≡ true → Leaves (outcome number next (view xs)) 3 xs xs
+  arc-value e h = leaves-refused 3 _ next xs (rw (← is, e, h)) (λ z. omega arith)
 
-  module _ (g : ℕ) where
-    pub grade-pair : pairFault n s r ≡ true → Leaves (gradeOf (view xs) s r g) 3 xs xs
-    unfolding gradeOf gradeNumber
-    grade-pair e = leaves-refused 3 _ _ xs (rw (← is, e)) (λ z. omega arith)
-
-    pub grade-high : pairFault n s r ≡ false → 15 < g → Leaves (gradeOf (view xs) s r g) 3 xs xs
-    unfolding gradeOf gradeNumber gradeFault
-    grade-high e h = leaves-refused 3 _ _ xs (rw (← is, e, lt-ltb 15 g h)) (λ z. omega arith)
-
-    pub grade-done : (ys : List ℕ) → pairFault n s r ≡ false → g ≤ 15 → view ys ≡ changed (view xs) s r (gradeCost g) → Leaves
-        (gradeOf (view xs) s r g) 0 xs ys
-    unfolding gradeOf gradeNumber gradeFault
-    grade-done ys e h v = leaves-accepted _ _ xs ys (rw (← is, e, le-ltb 15 g h)) v
+  pub arc-done : (ys : List ℕ) → pairFault n s r ≡ false → b ≡ false → view ys ≡ next → Leaves (outcome number next (view xs)) 0 xs ys
+  arc-done ys e h v = leaves-accepted _ next xs ys (rw (← is, e, h)) v

@@ -1,10 +1,14 @@
 -- `memory::change` meets its contract: each fault is refused, and else the arc is set.
 -- Assumes nothing.
-use borrow.Author.Needs.{needs}
 use mathlib.Core.Path.{sym, _∙_}
+use borrow.Author.Needs.{needs}
+use borrow.Author.Tests.{lt-ltb, le-ltb}
 use denote.Ref.{now}
+use Rattle.network.specs.Faults.{maxCost, costFault}
+use Rattle.network.specs.Change.{changed, changeOf, changeNumber}
+use Rattle.memory.specs.Layout.{view}
 use Rattle.memory.proofs.Store.{sender-node, receiver-node}
-use Rattle.memory.proofs.Changing.{change-pair, change-cost, change-done}
+use Rattle.memory.proofs.Changing.{arc-pair, arc-value, arc-done}
 use Rattle.memory.proofs.change.Statement.{statement}
 use Rattle.memory.proofs.change.Tie as tie
 
@@ -15,43 +19,40 @@ pair-fault-requires : tie.Need-pair-fault-requires
 pair-fault-requires c κs = search needs
 
 returns : tie.Need-returns
+unfolding changeOf changeNumber
 returns c =
     let a = c .before .before .before .before .args in
     let w = now (a .net) in
-    change-pair w (c .before .before .nodes .result) (a .sender) (a .receiver) (c .before .before .nodes .ensures) (a .cost)
+    let n = c .before .before .nodes in
+    arc-pair w (n .result) (a .sender) (a .receiver) (n .ensures) (costFault (a .cost)) (changed (view w) (a .sender) (a .receiver) (a .cost))
     (sym (c .before .pair-fault .ensures) ∙ c .if1 .taken)
 
 returns-2 : tie.Need-returns-2
+unfolding changeOf changeNumber costFault
 returns-2 c =
     let a = c .before .before .before .before .before .args in
     let w = now (a .net) in
-    change-cost w (c .before .before .before .nodes .result) (a .sender) (a .receiver) (c .before .before .before .nodes .ensures)
-    (a .cost) (sym (c .before .before .pair-fault .ensures) ∙ c .before .if1 .left) (c .if2 .taken)
+    let n = c .before .before .before .nodes in
+    arc-value w (n .result) (a .sender) (a .receiver) (n .ensures) (costFault (a .cost)) (changed (view w) (a .sender) (a .receiver) (a .cost))
+    (sym (c .before .before .pair-fault .ensures) ∙ c .before .if1 .left) (lt-ltb maxCost (a .cost) (c .if2 .taken))
 
 set-arc-requires : tie.Need-set-arc-requires
 set-arc-requires c κs =
     let a = c .before .before .before .before .before .before .args in
     let w = now (a .net) in
     let n = c .before .before .before .before .nodes in
-    let f = (sym (c .before .before .before .pair-fault .ensures) ∙ c .before .before .if1 .left) in (
-      search needs,
-      (
-        sender-node w (n .result) (a .sender) (a .receiver) (n .ensures) f,
-        receiver-node w (n .result) (a .sender)
-            (a .receiver) (n .ensures) f,
-      ),
-    )
+    let f = sym (c .before .before .before .pair-fault .ensures) ∙ c .before .before .if1 .left in
+    (search needs, (sender-node w (n .result) (a .sender) (a .receiver) (n .ensures) f, receiver-node w (n .result) (a .sender) (a .receiver) (n .ensures) f))
 
 returns-3 : tie.Need-returns-3
+unfolding changeOf changeNumber costFault
 returns-3 c =
     let a = c .before .before .before .before .before .before .before .args in
     let w = now (a .net) in
-    change-done w (c .before .before .before .before .before .nodes .result) (a .sender) (a .receiver)
-    (c .before .before .before .before .before .nodes .ensures) (a .cost) (c .set-arc .last .0) (sym
-    (c .before .before .before .before .pair-fault .ensures) ∙ c .before .before .before .if1 .left)
-    (c .before .before .if2 .left) (c .set-arc .ensures)
+    let n = c .before .before .before .before .before .nodes in
+    arc-done w (n .result) (a .sender) (a .receiver) (n .ensures) (costFault (a .cost)) (changed (view w) (a .sender) (a .receiver) (a .cost))
+    (c .set-arc .last .0) (sym (c .before .before .before .before .pair-fault .ensures) ∙ c .before .before .before .if1 .left) (le-ltb maxCost (a .cost) (c .before .before .if2 .left))
+    (c .set-arc .ensures)
 
 pub change-spec : {M : Type 1} → statement M
-change-spec =
-    tie.close
-    (tie.spec nodes-requires pair-fault-requires returns returns-2 set-arc-requires returns-3)
+change-spec = tie.close (tie.spec nodes-requires pair-fault-requires returns returns-2 set-arc-requires returns-3)
