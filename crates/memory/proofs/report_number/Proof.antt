@@ -34,7 +34,7 @@ cost-word-requires c κs =
     let f = (sym (c .before .before .pair-fault .ensures) ∙ c .before .if1 .left) in
     let s = sender-node w _ (a .sender) (a .receiver) n f in
     let r = receiver-node w _ (a .sender) (a .receiver) n f in
-    (search needs, (s, r))
+    (search needs, (search (s, r), search (s, r)))
 
 report-fault-requires : tie.Need-report-fault-requires
 report-fault-requires c κs = search needs
