@@ -3,4 +3,6 @@ pub mod Network
 pub mod Round
 pub mod Change
 pub mod Placing
+pub mod Writing
+pub mod Route
 pub mod Words

@@ -49,6 +49,12 @@ pub enum Offer {
     Sum(u32),
 }
 
+// What a call that writes bytes answers: a number, 0 where it is accepted, and how many bytes it wrote.
+pub struct Written {
+    pub number: u8,
+    pub length: usize,
+}
+
 // A receiver's choice among the offers that it holds.
 pub enum Choice {
     // The words are not those of at most 32 senders, or the receiver is above 31.

@@ -1,0 +1,56 @@
+// State files: what reading a record finds. Definitions in specs/, the acceptance theorem in proofs/. There are no functions.
+
+// A change of an arc.
+pub enum ArcChange {
+    Set {
+        sender: u32,
+        receiver: u32,
+        cost: u32,
+    },
+    Removed {
+        sender: u32,
+        receiver: u32,
+    },
+}
+
+// A record that was read: a change, a round or a refusal with its number and place, and what else an image has.
+pub enum Event {
+    End,
+    Header {
+        nodes: u32,
+        origin: u32,
+    },
+    Change(ArcChange),
+    Row {
+        node: u32,
+        label: u32,
+        predecessor: u32,
+        list: u32,
+    },
+    Report {
+        sender: u32,
+        receiver: u32,
+        label: u32,
+        list: u32,
+    },
+    // The marks are the record's body and stay there.
+    Round,
+    FullRound,
+    Refusal {
+        number: u8,
+        place: usize,
+    },
+}
+
+// A record that was read, and its length with the kind byte; 0 where it was refused for its kind or was cut.
+pub struct Record {
+    pub event: Event,
+    pub length: usize,
+}
+
+// Where in a run a record stands, which decides the kinds that are allowed: at its start, inside its image, after the image.
+pub enum Section {
+    Start,
+    Image,
+    Events,
+}
