@@ -1,0 +1,131 @@
+-- Lengths: of each record, and of an image at most 16,217 bytes.
+-- Assumes nothing.
+use mathlib.Core.Path.{_≡_, refl, sym, ap, _∙_}
+use mathlib.Core.Bool.{Bool, true, false, cond}
+use mathlib.Core.List.{List, [], _++_}
+use mathlib.Core.Logic.{_⊎_, inl, inr}
+use Prim.Native.Nat.{ℕ, suc, _+_, _*_, _-_, _<_, _≤_}
+use native.Mathlib.Omega.{arith}
+use lib.Dec.{eqb}
+use lib.ListN.{length, length-append}
+use Rattle.ancestors.proofs.Cases.{bool-cases, eq-or-ne, never}
+use Rattle.network.specs.Faults.{pairFault, nodeFault}
+use Rattle.network.specs.Network.{Row, none, root, via, Report, empty, told, Net, Within}
+use Rattle.network.proofs.FaultLaws.{pair-says}
+use Rattle.network.proofs.Limits.{within-size}
+use Rattle.records.specs.Numbers.{be8, be16, be32}
+use Rattle.records.specs.Records.{endRecord, headerRecord, arcRecord, rowRecord, reportRecord}
+use Rattle.records.specs.Image.{each, arcBytes, rowBytes, reportBytes, byNode, byPair, image}
+use Rattle.records.proofs.Each.{each-split, each-most}
+
+-- ---- records
+
+pub end-long : length endRecord ≡ 1
+unfolding endRecord be8
+end-long = refl
+
+pub header-long : (n o : ℕ) → length (headerRecord n o) ≡ 3
+unfolding headerRecord be8
+header-long n o = refl
+
+pub arc-long : (s r c : ℕ) → length (arcRecord s r c) ≡ 5
+unfolding arcRecord be16 be8
+arc-long s r c = refl
+
+pub row-long : (y d p l : ℕ) → length (rowRecord y d p l) ≡ 11
+unfolding rowRecord be32 be16 be8
+row-long y d p l = refl
+
+pub report-long : (s r d l : ℕ) → length (reportRecord s r d l) ≡ 11
+unfolding reportRecord be32 be16 be8
+report-long s r d l = refl
+
+-- ---- what the parts of an image have at most
+
+arc-most : (s r c : ℕ) → length (arcBytes s r c) ≤ 5
+unfolding arcBytes
+arc-most s r c = go (eqb c 0)
+  where
+    go : (b : Bool) → length (cond b [] (arcRecord s r c)) ≤ 5
+    go true = omega arith
+    go false = omega (arith, arc-long s r c)
+
+row-most : (y : ℕ) (w : Row) → length (rowBytes y w) ≤ 11
+unfolding rowBytes
+row-most y none = omega arith
+row-most y (root l) = omega arith
+row-most y (via d p l) = omega (arith, row-long y d p l)
+
+report-most : (s r : ℕ) (h : Report) → length (reportBytes s r h) ≤ 11
+unfolding reportBytes
+report-most s r empty = omega arith
+report-most s r (told d l) = omega (arith, report-long s r d l)
+
+-- bytes that a test may leave out
+cond-most : (m : ℕ) (b : Bool) (l : List ℕ) → length l ≤ m → length (cond b [] l) ≤ m
+cond-most m true l h = omega arith
+cond-most m false l h = h
+
+-- a first number without bytes
+each-front : (f : ℕ → List ℕ) (o k : ℕ) → f o ≡ [] → each f o (suc k) ≡ each f (suc o) k
+unfolding each
+each-front f o k e = ap (λ (l : List ℕ). l ++ each f (suc o) k) e
+
+-- d numbers of which one, o, has no bytes
+each-gap : (f : ℕ → List ℕ) (m d o : ℕ) → o < d → f o ≡ [] → ((i : ℕ) → length (f i) ≤ m) → length (each f 0 d) ≤ m * (d - 1)
+each-gap f m d o h e b =
+    let p : o + suc (d - 1 - o) ≡ d = omega arith in
+    let z : 0 + o ≡ o = omega arith in
+    let q = ap length (sym (ap (each f 0) p) ∙ each-split f 0 o (suc (d - 1 - o)) ∙ ap (λ (k : ℕ). each f 0 o ++ each f k (suc (d - 1 - o))) z) in
+    let r = length-append (each f 0 o) (each f o (suc (d - 1 - o))) in
+    let s = each-most f m 0 o (λ i _ _. b i) in
+    let t = each-most f m (suc o) (d - 1 - o) (λ i _ _. b i) in
+    let u = ap length (each-front f o (d - 1 - o) e) in
+    let v : m * o + m * (d - 1 - o) ≡ m * (d - 1) = parts m o (d - 1 - o) (d - 1) (omega arith) in
+    omega arith
+  where
+    parts : (m a b c : ℕ) → a + b ≡ c → m * a + m * b ≡ m * c
+    parts m a b c h = rw (← h) (omega arith)
+
+-- a node is not paired with itself
+pairs-most : (x : Net) (f : ℕ → ℕ → List ℕ) (m : ℕ) → ((s r : ℕ) → length (f s r) ≤ m) → length (byPair x f) ≤ m * 31 * 32
+unfolding byPair
+pairs-most x f m h =
+    each-most (λ s. each (g s) 0 32) (m * 31) 0 32
+    (λ s _ b. each-gap (g s) m 32 s (omega arith) (self s (bool-cases (pairFault (x .nodes) s s))) (λ r. cond-most m (pairFault (x .nodes) s r) (f s r) (h s r)))
+  where
+    g : ℕ → ℕ → List ℕ
+    g s r = cond (pairFault (x .nodes) s r) [] (f s r)
+
+    self : (s : ℕ) → (pairFault (x .nodes) s s ≡ true) ⊎ (pairFault (x .nodes) s s ≡ false) → g s s ≡ []
+    self s (inl e) = rw e
+    self s (inr e) = absurd (pair-says (x .nodes) s s e .2 refl)
+
+-- the origin's row is not written
+rows-most : (x : Net) → Within x → length (byNode x (λ y. rowBytes y (x .row y))) ≤ 341
+unfolding byNode rowBytes
+rows-most x w =
+    let size = within-size x w in
+    each-gap (λ y. cond (nodeFault (x .nodes) y) [] (rowBytes y (x .row y))) 11 32 (x .origin) (omega (arith, size .1, size .2))
+    (none-there (nodeFault (x .nodes) (x .origin)) (ap (rowBytes (x .origin)) (w .origin-row)))
+    (λ y. cond-most 11 (nodeFault (x .nodes) y) (rowBytes y (x .row y)) (row-most y (x .row y)))
+  where
+    none-there : (b : Bool) → rowBytes (x .origin) (x .row (x .origin)) ≡ [] → cond b [] (rowBytes (x .origin) (x .row (x .origin))) ≡ []
+    none-there true e = refl
+    none-there false e = e
+
+-- an image is at most 16,217 bytes
+pub image-most : (x : Net) → Within x → length (image x) ≤ 16217
+unfolding image
+image-most x w =
+    let arcs = byPair x (λ s r. arcBytes s r (x .cost s r)) in
+    let rows = byNode x (λ y. rowBytes y (x .row y)) in
+    let reports = byPair x (λ s r. reportBytes s r (x .held s r)) in
+    let a = length-append (headerRecord (x .nodes) (x .origin)) (arcs ++ (rows ++ (reports ++ endRecord))) in
+    let b = length-append arcs (rows ++ (reports ++ endRecord)) in
+    let c = length-append rows (reports ++ endRecord) in
+    let d = length-append reports endRecord in
+    let e = pairs-most x (λ s r. arcBytes s r (x .cost s r)) 5 (λ s r. arc-most s r (x .cost s r)) in
+    let f = rows-most x w in
+    let g = pairs-most x (λ s r. reportBytes s r (x .held s r)) 11 (λ s r. report-most s r (x .held s r)) in
+    omega (arith, a, b, c, d, e, f, g, header-long (x .nodes) (x .origin), end-long)
