@@ -1,7 +1,7 @@
 -- Case splits on tests and on numbers, and search below a bound: what stands in for excluded middle.
 -- Assumes nothing.
 use mathlib.Core.Path.{_≡_, refl, sym, subst, _∙_}
-use mathlib.Core.Bool.{Bool, true, false, _&&_, _||_}
+use mathlib.Core.Bool.{Bool, true, false, cond, _&&_, _||_}
 use mathlib.Core.Logic.{_⊎_, inl, inr, _≢_}
 use Prim.Native.Nat.{ℕ, zero, suc, _+_, _<_, _≤_}
 use native.Mathlib.Omega.{arith}
@@ -81,3 +81,8 @@ module _ (P : ℕ → Type 0) (decide : (i : ℕ) → Dec (P i)) where
               least : (j : ℕ) → P j → (k ≤ j) ⊎ (j < k) → k ≤ j
               least j q (inl a) = a
               least j q (inr a) = absurd (r (j, a, q))
+
+-- what holds of each answer of a test holds of the one it gives
+pub cond-by : {A : Type 0} (P : A → Type 0) (t : Bool) (x y : A) → (t ≡ true → P x) → (t ≡ false → P y) → P (cond t x y)
+cond-by P true x y f g = f refl
+cond-by P false x y f g = g refl

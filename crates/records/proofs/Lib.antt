@@ -1,3 +1,5 @@
 pub mod Each
 pub mod Ranks
 pub mod Sizes
+pub mod NumberLaws
+pub mod Parsing
