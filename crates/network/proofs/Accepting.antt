@@ -41,3 +41,23 @@ pub place-report-accepted : (x : Net) (s r d l : ℕ) → placeReportNumber x s 
     (pairFault (x .nodes) s r ≡ false) × (reportFault (x .nodes) (x .cost s r) s d l ≡ false)
 unfolding placeReportNumber
 place-report-accepted x s r d l e = two-tests (pairFault (x .nodes) s r) (reportFault (x .nodes) (x .cost s r) s d l) 2 4 e
+
+-- ---- and without a fault the call is accepted
+
+pub fresh-free : (n origin : ℕ) → sizeFault n origin ≡ false → freshNumber n origin ≡ 0
+unfolding freshNumber
+fresh-free n origin e = rw e
+
+pub change-free : (x : Net) (s r c : ℕ) → pairFault (x .nodes) s r ≡ false → costFault c ≡ false → changeNumber x s r c ≡ 0
+unfolding changeNumber
+change-free x s r c e f = rw (e, f)
+
+pub place-row-free : (x : Net) (y d p l : ℕ) → nodeFault (x .nodes) y ≡ false → rowFault (x .nodes) (x .origin) y d p l ≡ false →
+    placeRowNumber x y d p l ≡ 0
+unfolding placeRowNumber
+place-row-free x y d p l e f = rw (e, f)
+
+pub place-report-free : (x : Net) (s r d l : ℕ) → pairFault (x .nodes) s r ≡ false → reportFault (x .nodes) (x .cost s r) s d l ≡ false →
+    placeReportNumber x s r d l ≡ 0
+unfolding placeReportNumber
+place-report-free x s r d l e f = rw (e, f)

@@ -10,7 +10,8 @@ use borrow.Author.Tests.{lt-ltb, le-ltb, eq-eqb, ne-eqb}
 use Rattle.ancestors.specs.Ancestors.{own}
 use Rattle.ancestors.proofs.Cases.{eq-or-ne, eqb-same}
 use Rattle.network.specs.Faults.{maxGrade}
-use Rattle.network.specs.Network.{Row, none, root, Report, empty, Net, setAt, setPair, withCost, withRow, withHeld, outcome, freshNet}
+use Rattle.network.specs.Network.{Row, none, root, via, Report, empty, told, Net, setAt, setPair, withCost, withRow, withHeld, outcome, freshNet}
+use Rattle.network.specs.Placing.{placeRowNumber, placeRowOf, placeReportNumber, placeReportOf}
 use Rattle.network.specs.Round.{Marks, report, hear, choice, renewTo, renew, round, marked, roundNumber, roundOf, everyArc, fullRoundOf}
 use Rattle.network.specs.Change.{changed, changeNumber, changeOf, gradeCost, gradeNumber, gradeOf}
 use Rattle.network.proofs.FaultLaws.{cost-free, grade-free}
@@ -53,6 +54,15 @@ round-outcome x ms = refl
 pub full-round-outcome : (x : Net) → fullRoundOf x ≡ outcome 0 (round (everyArc x) x) x
 unfolding fullRoundOf
 full-round-outcome x = refl
+
+pub place-row-outcome : (x : Net) (y d p l : ℕ) → placeRowOf x y d p l ≡ outcome (placeRowNumber x y d p l) (withRow x y (via d p l)) x
+unfolding placeRowOf
+place-row-outcome x y d p l = refl
+
+pub place-report-outcome : (x : Net) (s r d l : ℕ) →
+    placeReportOf x s r d l ≡ outcome (placeReportNumber x s r d l) (withHeld x s r (told d l)) x
+unfolding placeReportOf
+place-report-outcome x s r d l = refl
 
 -- ---- a value set at a node or a pair
 

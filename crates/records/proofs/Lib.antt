@@ -3,3 +3,4 @@ pub mod Ranks
 pub mod Sizes
 pub mod NumberLaws
 pub mod Parsing
+pub mod PlacedRecords
