@@ -4,3 +4,4 @@ pub mod Sizes
 pub mod NumberLaws
 pub mod Parsing
 pub mod PlacedRecords
+pub mod SameImage
