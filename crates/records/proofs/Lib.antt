@@ -5,3 +5,4 @@ pub mod NumberLaws
 pub mod Parsing
 pub mod PlacedRecords
 pub mod SameImage
+pub mod ImageSteps

@@ -16,9 +16,9 @@ use Rattle.records.specs.Records.{endRecord, arcRecord, rowRecord, repor
 use Rattle.records.specs.declared.ArcChange.{ArcChange}
 use Rattle.records.specs.declared.ArcChange.the-variants.{Set, Removed}
 use Rattle.records.specs.declared.Event.{Event}
-use Rattle.records.specs.declared.Event.the-variants.{End, Change, Row, Report, Refusal}
+use Rattle.records.specs.declared.Event.the-variants.{End, Header, Change, Row, Report, Refusal}
 use Rattle.records.specs.declared.Record.{Record}
-use Rattle.records.specs.declared.Section.the-variants.{Image}
+use Rattle.records.specs.declared.Section.the-variants.{Start, Image}
 use Rattle.records.proofs.NumberLaws.{be8-of, be16-of, be32-of, num16-of, num32-of, num16-small, num32-small}
 
 -- ---- bytes
@@ -57,7 +57,7 @@ pub data Shown (at : ℕ) (bs : List ℕ) (r : Record) : Type 0 where
   an-arc : (b : List ℕ) → bs ≡ 2 ∷ b → 4 ≤ length b → r ≡ record { event = eventOf at 2 (take 4 b); length = 5 } → Shown at bs r
   a-row : (b : List ℕ) → bs ≡ 3 ∷ b → 10 ≤ length b → r ≡ record { event = eventOf at 3 (take 10 b); length = 11 } → Shown at bs r
   a-report : (b : List ℕ) → bs ≡ 4 ∷ b → 10 ≤ length b → r ≡ record { event = eventOf at 4 (take 10 b); length = 11 } → Shown at bs r
-  a-stop : (e : ℕ) → r ≡ refusedRecord e at → Shown at bs r
+  a-stop : (e : ℕ) → e ≢ 0 → r ≡ refusedRecord e at → Shown at bs r
 
 -- inside an image
 image-kinds : (k : ℕ) → allowed Image k ≡ true → (k ≡ 0) ⊎ ((k ≡ 2) ⊎ ((k ≡ 3) ⊎ (k ≡ 4)))
@@ -85,17 +85,17 @@ unfolding bodied bodyLength bodyOf eventOf
 body-shown at k b (inl e) =
     rw e (cond-by (Shown at (0 ∷ b)) (ltb (length b) 0) _ _ (λ t. absurd (omega (arith, ltb-true (length b) 0 t))) (λ _. an-end b refl refl))
 body-shown at k b (inr (inl e)) =
-    rw e (cond-by (Shown at (2 ∷ b)) (ltb (length b) 4) _ _ (λ _. a-stop 1 refl) (λ t. an-arc b refl (ltb-false (length b) 4 t) refl))
+    rw e (cond-by (Shown at (2 ∷ b)) (ltb (length b) 4) _ _ (λ _. a-stop 1 (λ z. omega arith) refl) (λ t. an-arc b refl (ltb-false (length b) 4 t) refl))
 body-shown at k b (inr (inr (inl e))) =
-    rw e (cond-by (Shown at (3 ∷ b)) (ltb (length b) 10) _ _ (λ _. a-stop 1 refl) (λ t. a-row b refl (ltb-false (length b) 10 t) refl))
+    rw e (cond-by (Shown at (3 ∷ b)) (ltb (length b) 10) _ _ (λ _. a-stop 1 (λ z. omega arith) refl) (λ t. a-row b refl (ltb-false (length b) 10 t) refl))
 body-shown at k b (inr (inr (inr e))) =
-    rw e (cond-by (Shown at (4 ∷ b)) (ltb (length b) 10) _ _ (λ _. a-stop 1 refl) (λ t. a-report b refl (ltb-false (length b) 10 t) refl))
+    rw e (cond-by (Shown at (4 ∷ b)) (ltb (length b) 10) _ _ (λ _. a-stop 1 (λ z. omega arith) refl) (λ t. a-report b refl (ltb-false (length b) 10 t) refl))
 
 pub shown : (at : ℕ) (bs : List ℕ) → Shown at bs (recordOf Image at bs)
 unfolding recordOf
-shown at [] = a-stop 1 refl
+shown at [] = a-stop 1 (λ z. omega arith) refl
 shown at (k ∷ b) =
-    cond-by (Shown at (k ∷ b)) (allowed Image k) (bodied at k b) (refusedRecord 2 at) (λ e. body-shown at k b (image-kinds k e)) (λ _. a-stop 2 refl)
+    cond-by (Shown at (k ∷ b)) (allowed Image k) (bodied at k b) (refusedRecord 2 at) (λ e. body-shown at k b (image-kinds k e)) (λ _. a-stop 2 (λ z. omega arith) refl)
 
 -- ---- from the event back to the bytes
 
@@ -197,3 +197,26 @@ report-parse at s r d l rest hs hr hd hl =
     let ps : s % 256 ≡ s = omega arith in
     let pr : r % 256 ≡ r = omega arith in
     simp (le-ltb (suc (suc (suc (suc (suc (suc (suc (suc (suc (suc (length rest))))))))))) 10 (omega arith), ps, pr, num32-of d hd, num32-of l hl)
+
+-- ---- the first record
+
+pub data StartShown (bs : List ℕ) (r : Record) : Type 0 where
+  a-header : (n o : ℕ) (b : List ℕ) → bs ≡ 1 ∷ n ∷ o ∷ b → r ≡ record { event = Header n o; length = 3 } → StartShown bs r
+  a-stop : (e : ℕ) → e ≢ 0 → r ≡ refusedRecord e 0 → StartShown bs r
+
+header-shown : (b : List ℕ) → StartShown (1 ∷ b) (bodied 0 1 b)
+unfolding bodied bodyLength bodyOf eventOf num8
+header-shown [] = a-stop 1 (λ z. omega arith) refl
+header-shown (n ∷ []) = a-stop 1 (λ z. omega arith) refl
+header-shown (n ∷ o ∷ b) = a-header n o b refl (rw (le-ltb (suc (suc (length b))) 2 (omega arith)))
+
+pub start-shown : (bs : List ℕ) → StartShown bs (recordOf Start 0 bs)
+unfolding recordOf allowed
+start-shown [] = a-stop 1 (λ z. omega arith) refl
+start-shown (k ∷ b) =
+    cond-by (StartShown (k ∷ b)) (eqb k 1) (bodied 0 k b) (refusedRecord 2 0)
+    (λ e. rw (eqb-true k 1 e) (header-shown b)) (λ _. a-stop 2 (λ z. omega arith) refl)
+
+pub header-parse : (n o : ℕ) (b : List ℕ) → recordOf Start 0 (1 ∷ n ∷ o ∷ b) ≡ record { event = Header n o; length = 3 }
+unfolding recordOf allowed bodied bodyLength bodyOf eventOf num8
+header-parse n o b = rw (le-ltb (suc (suc (length b))) 2 (omega arith))

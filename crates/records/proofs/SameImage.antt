@@ -96,6 +96,20 @@ module _ (x : Net) (w : Within x) where
       let few = within-size x w .1 in
       report-in s r d l (omega (arith, f .label)) (list-small (x .nodes) l few (f .bits))
 
+-- ---- the same bytes, the same cost
+
+pub cost-said : (a b : Net) → Within a → Within b → a .nodes ≡ b .nodes → (s r : ℕ) → pairFault (a .nodes) s r ≡ false →
+    rankBytes a (arcRank s r) ≡ rankBytes b (arcRank s r) → a .cost s r ≡ b .cost s r
+cost-said a b wa wb n s r e same =
+    let m = pair-says (a .nodes) s r e in
+    let few = within-size a wa .1 in
+    let hs : s < 32 = omega (arith, m .0) in
+    let hr : r < 32 = omega (arith, m .1) in
+    let q : arcBytes s r (a .cost s r) ≡ arcBytes s r (b .cost s r) =
+        sym (arc-here a s r hs hr e) ∙ same ∙ arc-here b s r hs hr (rw (← n) e) in
+    sym (cost-in s r (a .cost s r) (omega (arith, wa .arc-cost s r)) (eq-or-ne (a .cost s r) 0)) ∙ ap (λ (l : List ℕ). num16 l 3) q ∙
+    cost-in s r (b .cost s r) (omega (arith, wb .arc-cost s r)) (eq-or-ne (b .cost s r) 0)
+
 -- ---- the same bytes, the same network
 
 module _ (a b : Net) (wa : Within a) (wb : Within b) (n : a .nodes ≡ b .nodes) (o : a .origin ≡ b .origin)
@@ -111,11 +125,7 @@ module _ (a b : Net) (wa : Within a) (wb : Within b) (n : a .nodes ≡ b .nodes)
       no-cost a wa s r e (eq-or-ne (a .cost s r) 0) ∙ sym (no-cost b wb s r (rw (← n) e) (eq-or-ne (b .cost s r) 0))
   same-cost s r (inr e) =
       let m = pair-small s r e in
-      let q : arcBytes s r (a .cost s r) ≡ arcBytes s r (b .cost s r) =
-          sym (arc-here a s r (m .0) (m .1) e) ∙ same (arcRank s r) (omega (arith, pair-rank-small s r (m .0) (m .1))) ∙
-          arc-here b s r (m .0) (m .1) (rw (← n) e) in
-      sym (cost-in s r (a .cost s r) (omega (arith, wa .arc-cost s r)) (eq-or-ne (a .cost s r) 0)) ∙ ap (λ (l : List ℕ). num16 l 3) q ∙
-      cost-in s r (b .cost s r) (omega (arith, wb .arc-cost s r)) (eq-or-ne (b .cost s r) 0)
+      cost-said a b wa wb n s r e (same (arcRank s r) (omega (arith, pair-rank-small s r (m .0) (m .1))))
 
   same-held : (s r : ℕ) → (pairFault (a .nodes) s r ≡ true) ⊎ (pairFault (a .nodes) s r ≡ false) → a .held s r ≡ b .held s r
   unfolding reportRank
