@@ -29,7 +29,7 @@ use Rattle.records.specs.declared.Record.{Record}
 use Rattle.records.specs.declared.Section.the-variants.{Image}
 use Rattle.records.proofs.Parsing as P
 use Rattle.records.proofs.Parsing.{Shown, shown, arc-back, row-back, report-back, arc-parse, row-parse, report-parse}
-use Rattle.records.proofs.PlacedRecords.{pair-rank-small, rank-pair, arc-some, arc-none, PlacedAt, arc-placed, row-placed, report-placed}
+use Rattle.records.proofs.PlacedRecords.{pair-rank-small, rank-pair, arc-here, row-here, report-here, arc-off, row-off, report-off, arc-some, arc-none, PlacedAt, arc-placed, row-placed, report-placed}
 use Rattle.records.proofs.Ranks.{rank-arc, rank-row, rank-report}
 use Rattle.records.proofs.SameImage.{list-small, cost-said}
 use Rattle.records.proofs.Sizes.{arc-long, row-long, report-long}
@@ -337,3 +337,52 @@ module _ (x : Net) (wx : Within x) (z : Net) (next at : ℕ) (rest : List ℕ) w
             (none-first (orderNumber next (reportRank s r)) (placeReportNumber z s r d l) (order-none next (reportRank s r) above) number));
         placed-at = report-placed z (pre .within) s r d l number;
       }
+
+  -- the record of the rank k, where there is one, is taken
+  abbrev pub Takes : ℕ → Type 0
+  Takes k = Prefix x z k → next ≤ k → rankBytes x k ≢ [] → Taken z next k at (rankBytes x k) (rankBytes x k ++ rest)
+
+  takes-arc : (s r : ℕ) → s < 32 → r < 32 → Takes (arcRank s r)
+  takes-arc s r hs hr pre above some = go (bool-cases (pairFault (x .nodes) s r)) (eq-or-ne (x .cost s r) 0)
+    where
+      go : (pairFault (x .nodes) s r ≡ true) ⊎ (pairFault (x .nodes) s r ≡ false) → (x .cost s r ≡ 0) ⊎ (x .cost s r ≢ 0) →
+          Taken z next (arcRank s r) at (rankBytes x (arcRank s r)) (rankBytes x (arcRank s r) ++ rest)
+      go (inl e) c = absurd (some (arc-off x s r hs hr e))
+      go (inr e) (inl c) = absurd (some (arc-here x s r hs hr e ∙ arc-none s r (x .cost s r) c))
+      go (inr e) (inr c) =
+          rw (arc-here x s r hs hr e ∙ arc-some s r (x .cost s r) c)
+          (take-arc s r (x .cost s r) pre above e (omega (arith, wx .arc-cost s r)) c)
+
+  takes-row : (y : ℕ) → y < 32 → Takes (rowRank y)
+  unfolding rowBytes
+  takes-row y h pre above some = go (bool-cases (nodeFault (x .nodes) y)) (x .row y) refl
+    where
+      go : (nodeFault (x .nodes) y ≡ true) ⊎ (nodeFault (x .nodes) y ≡ false) → (v : Row) → x .row y ≡ v →
+          Taken z next (rowRank y) at (rankBytes x (rowRank y)) (rankBytes x (rowRank y) ++ rest)
+      go (inl e) v q = absurd (some (row-off x y h e))
+      go (inr e) none q = absurd (some (row-here x y h e ∙ ap (rowBytes y) q))
+      go (inr e) (root l) q = absurd (some (row-here x y h e ∙ ap (rowBytes y) q))
+      go (inr e) (via d p l) q = rw (row-here x y h e ∙ ap (rowBytes y) q) (take-row y d p l pre above q)
+
+  takes-report : (s r : ℕ) → r < 32 → Takes (reportRank s r)
+  unfolding reportBytes
+  takes-report s r hr pre above some = go (bool-cases (pairFault (x .nodes) s r)) (x .held s r) refl
+    where
+      go : (pairFault (x .nodes) s r ≡ true) ⊎ (pairFault (x .nodes) s r ≡ false) → (v : Report) → x .held s r ≡ v →
+          Taken z next (reportRank s r) at (rankBytes x (reportRank s r)) (rankBytes x (reportRank s r) ++ rest)
+      go (inl e) v q = absurd (some (report-off x s r hr e))
+      go (inr e) empty q = absurd (some (report-here x s r hr e ∙ ap (reportBytes s r) q))
+      go (inr e) (told d l) q = rw (report-here x s r hr e ∙ ap (reportBytes s r) q) (take-report s r d l pre above q)
+
+  pub takes : (k : ℕ) → k < 2080 → Takes k
+  unfolding rowRank reportRank
+  takes k h = go (le-or-lt 1024 k) (le-or-lt 1056 k)
+    where
+      go : (1024 ≤ k) ⊎ (k < 1024) → (1056 ≤ k) ⊎ (k < 1056) → Takes k
+      go (inr a) b = subst Takes (rank-pair k) (takes-arc (k / 32) (k % 32) (omega arith) (omega arith))
+      go (inl a) (inr b) =
+          let e : 1024 + (k - 1024) ≡ k = omega arith in
+          subst Takes e (takes-row (k - 1024) (omega arith))
+      go (inl a) (inl b) =
+          let e : 1056 + (k - 1056) ≡ k = omega arith in
+          subst Takes (ap (λ (i : ℕ). 1056 + i) (rank-pair (k - 1056)) ∙ e) (takes-report ((k - 1056) / 32) ((k - 1056) % 32) (omega arith))

@@ -6,3 +6,4 @@ pub mod Parsing
 pub mod PlacedRecords
 pub mod SameImage
 pub mod ImageSteps
+pub mod Acceptance

@@ -91,6 +91,23 @@ report-here x s r b e =
     let p = pair-rank s r b in
     rank-report x (arcRank s r) ∙ rw (p .0, p .1, e)
 
+-- what is not a pair of different nodes, or not a node, has none
+pub arc-off : (x : Net) (s r : ℕ) → s < 32 → r < 32 → pairFault (x .nodes) s r ≡ true → rankBytes x (arcRank s r) ≡ []
+unfolding ofPair
+arc-off x s r a b e =
+    let p = pair-rank s r b in
+    rank-arc x (arcRank s r) (pair-rank-small s r a b) ∙ rw (p .0, p .1, e)
+
+pub row-off : (x : Net) (y : ℕ) → y < 32 → nodeFault (x .nodes) y ≡ true → rankBytes x (rowRank y) ≡ []
+unfolding ofNode rowRank
+row-off x y a e = rank-row x y a ∙ rw e
+
+pub report-off : (x : Net) (s r : ℕ) → r < 32 → pairFault (x .nodes) s r ≡ true → rankBytes x (reportRank s r) ≡ []
+unfolding ofPair reportRank
+report-off x s r b e =
+    let p = pair-rank s r b in
+    rank-report x (arcRank s r) ∙ rw (p .0, p .1, e)
+
 -- an arc has bytes
 pub arc-some : (s r c : ℕ) → c ≢ 0 → arcBytes s r c ≡ arcRecord s r c
 unfolding arcBytes
