@@ -10,7 +10,7 @@ use borrow.Author.Tests.{lt-ltb, le-ltb, eq-eqb, ne-eqb}
 use Rattle.ancestors.specs.Ancestors.{own}
 use Rattle.ancestors.proofs.Cases.{eq-or-ne, eqb-same}
 use Rattle.network.specs.Faults.{maxGrade}
-use Rattle.network.specs.Network.{Row, none, root, via, Report, empty, told, Net, setAt, setPair, withCost, withRow, withHeld, outcome, freshNet}
+use Rattle.network.specs.Network.{Row, none, root, via, Report, empty, told, Net, setAt, setPair, withCost, withRow, withHeld, outcome, freshNet, freshNumber, freshOf}
 use Rattle.network.specs.Placing.{placeRowNumber, placeRowOf, placeReportNumber, placeReportOf}
 use Rattle.network.specs.Round.{Marks, report, hear, choice, renewTo, renew, round, marked, roundNumber, roundOf, everyArc, fullRoundOf}
 use Rattle.network.specs.Change.{changed, changeNumber, changeOf, gradeCost, gradeNumber, gradeOf}
@@ -39,6 +39,10 @@ unfolding outcome
 accepted-net k next x e = rw (eq-eqb k 0 e)
 
 -- every call answers an outcome
+pub fresh-outcome : (n origin : ℕ) → freshOf n origin ≡ outcome (freshNumber n origin) (freshNet n origin) (freshNet 1 0)
+unfolding freshOf
+fresh-outcome n origin = refl
+
 pub change-outcome : (x : Net) (s r c : ℕ) → changeOf x s r c ≡ outcome (changeNumber x s r c) (changed x s r c) x
 unfolding changeOf
 change-outcome x s r c = refl

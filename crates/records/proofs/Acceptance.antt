@@ -26,6 +26,7 @@ use Rattle.records.specs.declared.Section.the-variants.{Start, Image}
 use Rattle.records.proofs.Each.{each-split, each-none}
 use Rattle.records.proofs.ImageSteps.{ReadAt, NoneFrom, read-at, end-at, stop-at, Prefix, Taken, takes}
 use Rattle.records.proofs.Parsing.{bytes-drop, end-parse, StartShown, a-header, a-stop, start-shown, header-parse}
+use Rattle.records.proofs.PlacedRecords.{PlacedAt}
 use Rattle.records.proofs.Ranks.{image-whole}
 use Rattle.records.proofs.SameImage.{same-image}
 
@@ -125,3 +126,88 @@ given (suc f) z next at bs x used by h none-from w q = go (given f) (placed z ne
         given-next z next at bs (rec .length) y n x used r none-from
         (again y n (at + rec .length) (drop (rec .length) bs) x used (bytes-drop bs (rec .length) by) (omega (arith, r .below))
             (λ i a b. r .placed-at .others i (λ e. omega arith) ∙ none-from i (omega (arith, r .above)) b) (r .placed-at .within) q)
+
+-- ---- an image is accepted
+
+-- the record of the rank k is in place, or there is none
+prefix-next : (x z y : Net) (k : ℕ) (w : List ℕ) → Prefix x z k → PlacedAt z y k w → rankBytes x k ≡ w → Prefix x y (suc k)
+prefix-next x z y k w pre p e =
+    record {
+      nodes = p .nodes ∙ pre .nodes;
+      origin = p .origin ∙ pre .origin;
+      within = p .within;
+      agree = λ i a. agree i a (eq-or-ne i k);
+      none-from = λ i a b. p .others i (λ q. omega arith) ∙ pre .none-from i (omega arith) b;
+    }
+  where
+    agree : (i : ℕ) → i < suc k → (i ≡ k) ⊎ (i ≢ k) → rankBytes y i ≡ rankBytes x i
+    agree i a (inl q) = ap (rankBytes y) q ∙ p .here ∙ sym (ap (rankBytes x) q ∙ e)
+    agree i a (inr q) = p .others i q ∙ pre .agree i (omega (arith, q))
+
+prefix-skip : (x z : Net) (k : ℕ) → k < 2080 → Prefix x z k → rankBytes x k ≡ [] → Prefix x z (suc k)
+prefix-skip x z k h pre e =
+    record {
+      nodes = pre .nodes;
+      origin = pre .origin;
+      within = pre .within;
+      agree = λ i a. agree i a (eq-or-ne i k);
+      none-from = λ i a b. pre .none-from i (omega arith) b;
+    }
+  where
+    agree : (i : ℕ) → i < suc k → (i ≡ k) ⊎ (i ≢ k) → rankBytes z i ≡ rankBytes x i
+    agree i a (inl q) = ap (rankBytes z) q ∙ pre .none-from k (omega arith) h ∙ sym (ap (rankBytes x) q ∙ e)
+    agree i a (inr q) = pre .agree i (omega (arith, q))
+
+none-or-some : (l : List ℕ) → (l ≡ []) ⊎ (l ≢ [])
+none-or-some [] = inl refl
+none-or-some (k ∷ b) = inr (λ e. omega (arith, ap length e))
+
+some-long : (l : List ℕ) → l ≢ [] → 0 < length l
+some-long [] n = absurd (n refl)
+some-long (k ∷ b) n = omega arith
+
+-- all records of x are there
+prefix-whole : (x z : Net) → Within x → Prefix x z 2080 → z ≡ x
+prefix-whole x z w pre = same-image z x (pre .within) w (pre .nodes) (pre .origin) (pre .agree)
+
+module _ (x : Net) (wx : Within x) (rest : List ℕ) where
+  -- one record, then the others
+  taken-one : (d j f : ℕ) (z : Net) (next at : ℕ) → Taken z next j at (rankBytes x j) (rankBytes x j ++ (each (rankBytes x) (suc j) d ++ (0 ∷ rest))) →
+      ((y : Net) → PlacedAt z y j (rankBytes x j) → readRecords f y (suc j) (at + length (rankBytes x j)) (each (rankBytes x) (suc j) d ++ (0 ∷ rest)) ≡
+          acceptedOpening x (at + length (rankBytes x j) + length (each (rankBytes x) (suc j) d) + 1)) →
+      readRecords (suc f) z next at (each (rankBytes x) j (suc d) ++ (0 ∷ rest)) ≡ acceptedOpening x (at + length (each (rankBytes x) j (suc d)) + 1)
+  unfolding readRecords each
+  taken-one d j f z next at t again =
+      let w = rankBytes x j in
+      let e = each (rankBytes x) (suc j) d in
+      let bs = w ++ (e ++ (0 ∷ rest)) in
+      let len = recordOf Image at bs .length in
+      let n : at + length w + length e + 1 ≡ at + length (w ++ e) + 1 = omega (arith, length-append w e) in
+      ap (readRecords (suc f) z next at) (append-assoc w e (0 ∷ rest)) ∙
+      ap (afterStep (λ y above. readRecords f y above (at + len) (drop len bs)) z at) (t .onwards) ∙
+      ap (λ (i : ℕ). readRecords f (t .net) (suc j) (at + i) (drop i bs)) (t .long) ∙
+      ap (readRecords f (t .net) (suc j) (at + length w)) (drop-append-seam w (e ++ (0 ∷ rest))) ∙ again (t .net) (t .placed-at) ∙ ap (acceptedOpening x) n
+
+  taken-all : (d j f : ℕ) (z : Net) (next at : ℕ) → j + d ≡ 2080 → next ≤ j → length (each (rankBytes x) j d) < f → Prefix x z j →
+      readRecords f z next at (each (rankBytes x) j d ++ (0 ∷ rest)) ≡ acceptedOpening x (at + length (each (rankBytes x) j d) + 1)
+  unfolding readRecords each placed
+  taken-all zero j zero z next at e h fuel pre = absurd (omega arith)
+  taken-all zero j (suc f) z next at e h fuel pre =
+      let j-is : j ≡ 2080 = omega arith in
+      let n : z ≡ x = prefix-whole x z wx (subst (Prefix x z) j-is pre) in
+      let u : at + 1 ≡ at + 0 + 1 = omega arith in
+      ap (λ (r : Record). afterStep (λ y above. readRecords f y above (at + r .length) (drop (r .length) (0 ∷ rest))) z at (placed z next (r .event))) (end-parse at rest) ∙
+      ap (λ (i : Net). acceptedOpening i (at + 1)) n ∙ ap (acceptedOpening x) u
+  taken-all (suc d) j zero z next at e h fuel pre = absurd (omega arith)
+  taken-all (suc d) j (suc f) z next at e h fuel pre = go (none-or-some (rankBytes x j)) (taken-all d (suc j)) (length-append (rankBytes x j) (each (rankBytes x) (suc j) d))
+    where
+      go : (rankBytes x j ≡ []) ⊎ (rankBytes x j ≢ []) →
+          ((f : ℕ) (z : Net) (next at : ℕ) → suc j + d ≡ 2080 → next ≤ suc j → length (each (rankBytes x) (suc j) d) < f → Prefix x z (suc j) →
+              readRecords f z next at (each (rankBytes x) (suc j) d ++ (0 ∷ rest)) ≡ acceptedOpening x (at + length (each (rankBytes x) (suc j) d) + 1)) →
+          length (rankBytes x j ++ each (rankBytes x) (suc j) d) ≡ length (rankBytes x j) + length (each (rankBytes x) (suc j) d) →
+          readRecords (suc f) z next at (each (rankBytes x) j (suc d) ++ (0 ∷ rest)) ≡ acceptedOpening x (at + length (each (rankBytes x) j (suc d)) + 1)
+      go (inl n) again l =
+          rw n (again (suc f) z next at (omega arith) (omega arith) (omega (arith, ap length n)) (prefix-skip x z j (omega arith) pre n))
+      go (inr s) again l =
+          taken-one d j f z next at (takes x wx z next at (each (rankBytes x) (suc j) d ++ (0 ∷ rest)) j (omega arith) pre h s)
+          (λ y p. again f y (suc j) (at + length (rankBytes x j)) (omega arith) (omega arith) (omega (arith, some-long (rankBytes x j) s)) (prefix-next x z y j (rankBytes x j) pre p refl))

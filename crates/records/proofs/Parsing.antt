@@ -12,7 +12,7 @@ use lib.Seq.{drop-cons, getD-take, getD-drop, length-take-le}
 use borrow.Author.Tests.{le-ltb, ne-eqb, eqb-true, eqb-false, ltb-true, ltb-false}
 use Rattle.ancestors.proofs.Cases.{bool-cases, cond-by, and-both}
 use Rattle.records.specs.Numbers.{Bytes, be8, be16, be32, num8, num16, num32}
-use Rattle.records.specs.Records.{endRecord, arcRecord, rowRecord, reportRecord, bodyLength, bodyOf, arcChange, eventOf, allowed, refusedRecord, bodied, recordOf}
+use Rattle.records.specs.Records.{arcRecord, rowRecord, reportRecord, bodyLength, bodyOf, arcChange, eventOf, allowed, refusedRecord, bodied, recordOf}
 use Rattle.records.specs.declared.ArcChange.{ArcChange}
 use Rattle.records.specs.declared.ArcChange.the-variants.{Set, Removed}
 use Rattle.records.specs.declared.Event.{Event}
@@ -170,8 +170,8 @@ report-back at b s r d l h n q =
 
 -- ---- from the bytes to the event
 
-pub end-parse : (at : ℕ) (rest : List ℕ) → recordOf Image at (endRecord ++ rest) ≡ record { event = End; length = 1 }
-unfolding recordOf allowed bodied bodyLength bodyOf eventOf endRecord be8
+pub end-parse : (at : ℕ) (rest : List ℕ) → recordOf Image at (0 ∷ rest) ≡ record { event = End; length = 1 }
+unfolding recordOf allowed bodied bodyLength bodyOf eventOf
 end-parse at rest = rw (le-ltb (length rest) 0 (omega arith))
 
 pub arc-parse : (at s r c : ℕ) (rest : List ℕ) → s < 256 → r < 256 → c ≢ 0 → c < 65536 →

@@ -3,4 +3,5 @@ pub mod Records
 pub mod Image
 pub mod Ranks
 pub mod Opening
+pub mod Acceptance
 pub mod Running
