@@ -3,30 +3,34 @@
 use mathlib.Core.Path.{_≡_, refl, sym, ap, subst, _∙_}
 use mathlib.Core.Bool.{Bool, true, false, cond}
 use mathlib.Core.List.{List, [], _∷_, _++_, append-assoc}
-use mathlib.Core.Logic.{_⊎_, inl, inr, _≢_, _↔_}
-use Prim.Native.Nat.{ℕ, zero, suc, _+_, _-_, _<_, _≤_}
+use mathlib.Core.Logic.{_⊎_, inl, inr, _≢_}
+use Prim.Native.Nat.{ℕ, zero, suc, _+_, _-_, _/_, _%_, _<_, _≤_}
 use native.Mathlib.Omega.{arith}
-use native.Mathlib.Nat.{add-zero}
-use lib.Dec.{eqb}
+use lib.Dec.{eqb, ltb}
 use lib.ListN.{length, take, drop, length-append, take-append-drop}
-use lib.Seq.{drop-append-seam, take-at}
-use borrow.Author.Tests.{eqb-true, eqb-false, eq-eqb}
-use Rattle.ancestors.proofs.Cases.{cond-by, eq-or-ne, le-or-lt}
-use Rattle.network.specs.Network.{Net, Outcome, Within, freshNet, freshNumber}
+use lib.Seq.{drop-append-seam, take-at, length-take-le}
+use borrow.Author.Tests.{eq-eqb, ne-eqb}
+use Rattle.ancestors.specs.Ancestors.{own}
+use Rattle.ancestors.proofs.Cases.{eq-or-ne}
+use Rattle.network.specs.Faults.{nodeFault, pairFault}
+use Rattle.network.specs.Network.{Row, none, root, Net, Outcome, Within, freshNet, freshNumber}
 use Rattle.network.proofs.Accepting.{fresh-free}
-use Rattle.network.proofs.Effects.{fresh-effect}
+use Rattle.network.proofs.Effects.{accepted-net, fresh-outcome, FreshEffect, fresh-effect}
+use Rattle.network.proofs.Keeping.{fresh-within}
 use Rattle.network.proofs.Limits.{within-size}
-use Rattle.records.specs.Numbers.{Bytes}
-use Rattle.records.specs.Records.{endRecord, headerRecord, recordOf}
-use Rattle.records.specs.Image.{each, image}
-use Rattle.records.specs.Ranks.{rankBytes}
+use Rattle.records.specs.Numbers.{Bytes, be8}
+use Rattle.records.specs.Records.{endRecord, headerRecord, refusedRecord, recordOf}
+use Rattle.records.specs.Image.{each, rowBytes, reportBytes, image}
+use Rattle.records.specs.Ranks.{ofPair, ofNode, rankBytes}
 use Rattle.records.specs.Opening.{Step, stop, finish, onward, placed, Opening, refusedOpening, acceptedOpening, afterStep, readRecords, started, openOf}
+use Rattle.records.specs.Acceptance.{IsImage, Acceptance, Reopening}
+use Rattle.records.specs.declared.Event.the-variants.{Header}
 use Rattle.records.specs.declared.Record.{Record}
 use Rattle.records.specs.declared.Section.the-variants.{Start, Image}
 use Rattle.records.proofs.Each.{each-split, each-none}
 use Rattle.records.proofs.ImageSteps.{ReadAt, NoneFrom, read-at, end-at, stop-at, Prefix, Taken, takes}
 use Rattle.records.proofs.Parsing.{bytes-drop, end-parse, StartShown, a-header, a-stop, start-shown, header-parse}
-use Rattle.records.proofs.PlacedRecords.{PlacedAt}
+use Rattle.records.proofs.PlacedRecords.{arc-none, PlacedAt}
 use Rattle.records.proofs.Ranks.{image-whole}
 use Rattle.records.proofs.SameImage.{same-image}
 
@@ -211,3 +215,132 @@ module _ (x : Net) (wx : Within x) (rest : List ℕ) where
       go (inr s) again l =
           taken-one d j f z next at (takes x wx z next at (each (rankBytes x) (suc j) d ++ (0 ∷ rest)) j (omega arith) pre h s)
           (λ y p. again f y (suc j) (at + length (rankBytes x j)) (omega arith) (omega arith) (omega (arith, some-long (rankBytes x j) s)) (prefix-next x z y j (rankBytes x j) pre p refl))
+
+-- ---- the fresh network that a file starts from
+
+-- it is within limits
+fresh-net : (n o : ℕ) → freshNumber n o ≡ 0 → Within (freshNet n o)
+fresh-net n o e =
+    subst Within (ap (λ (c : Outcome). c .net) (fresh-outcome n o) ∙ accepted-net (freshNumber n o) (freshNet n o) (freshNet 1 0) e) (fresh-within n o)
+
+-- a row without a route, and the origin's, have no bytes
+no-bytes : (y : ℕ) (v : Row) (l : ℕ) → (v ≡ none) ⊎ (v ≡ root l) → rowBytes y v ≡ []
+unfolding rowBytes
+no-bytes y v l (inl e) = ap (rowBytes y) e
+no-bytes y v l (inr e) = ap (rowBytes y) e
+
+-- and has no records
+fresh-none : (n o i : ℕ) → rankBytes (freshNet n o) i ≡ []
+unfolding rankBytes ofPair ofNode reportBytes
+fresh-none n o i =
+    all (ltb i 1024) (pair-none (i / 32) (i % 32) (arc-none (i / 32) (i % 32) _ (f .cost (i / 32) (i % 32))))
+    (all (ltb i 1056) (node-none (i - 1024) (row-none (i - 1024) (eq-or-ne (i - 1024) o)))
+        (pair-none ((i - 1056) / 32) ((i - 1056) % 32) (ap (reportBytes ((i - 1056) / 32) ((i - 1056) % 32)) (f .held ((i - 1056) / 32) ((i - 1056) % 32)))))
+  where
+    f : FreshEffect n o (freshNet n o)
+    f = fresh-effect n o
+
+    all : (t : Bool) {a b : List ℕ} → a ≡ [] → b ≡ [] → cond t a b ≡ []
+    all true p q = p
+    all false p q = q
+
+    pair-none : (s r : ℕ) {l : List ℕ} → l ≡ [] → cond (pairFault (freshNet n o .nodes) s r) [] l ≡ []
+    pair-none s r p = all (pairFault (freshNet n o .nodes) s r) refl p
+
+    node-none : (y : ℕ) {l : List ℕ} → l ≡ [] → cond (nodeFault (freshNet n o .nodes) y) [] l ≡ []
+    node-none y p = all (nodeFault (freshNet n o .nodes) y) refl p
+
+    row-none : (y : ℕ) → (y ≡ o) ⊎ (y ≢ o) → rowBytes y (freshNet n o .row y) ≡ []
+    row-none y (inl e) = no-bytes y (freshNet n o .row y) (own o) (inr (ap (freshNet n o .row) e ∙ f .origin-row))
+    row-none y (inr e) = no-bytes y (freshNet n o .row y) (own o) (inl (f .relay-row y e))
+
+-- ---- the whole file
+
+-- the first three bytes of an image
+image-front : (x : Net) → Within x → (rest : List ℕ) → 1 ∷ x .nodes ∷ x .origin ∷ (fromRank x 0 ++ (0 ∷ rest)) ≡ image x ++ rest
+unfolding headerRecord endRecord be8
+image-front x w rest =
+    let size = within-size x w in
+    let n : x .nodes % 256 ≡ x .nodes = omega (arith, size .1) in
+    let o : x .origin % 256 ≡ x .origin = omega (arith, size .1, size .2) in
+    sym (ap (λ (l : List ℕ). l ++ rest) (image-whole x) ∙ rw (n, o) (ap (λ (l : List ℕ). 1 ∷ x .nodes ∷ x .origin ∷ l) (append-assoc (fromRank x 0) (0 ∷ []) rest)))
+
+image-long : (x : Net) → Within x → length (image x) ≡ 3 + length (fromRank x 0) + 1
+image-long x w =
+    let l = ap length (image-front x w []) in
+    let m = length-append (fromRank x 0) (0 ∷ []) in
+    let n = length-append (image x) [] in
+    omega arith
+
+-- what the first record leads to
+started-header : (bs : List ℕ) (n o : ℕ) → recordOf Start 0 bs ≡ record { event = Header n o; length = 3 } →
+    openOf bs ≡ cond (eqb (freshNumber n o) 0) (readRecords (length bs) (freshNet n o) 0 3 (drop 3 bs)) (refusedOpening (freshNumber n o) 0)
+unfolding openOf started
+started-header bs n o e = ap (λ (r : Record). started bs r (r .event)) e
+
+started-stop : (bs : List ℕ) (e : ℕ) → recordOf Start 0 bs ≡ refusedRecord e 0 → openOf bs ≡ refusedOpening e 0
+unfolding openOf started
+started-stop bs e p = ap (λ (r : Record). started bs r (r .event)) p
+
+-- accepted, it is an image
+only-images : (bs : List ℕ) → Bytes bs → (x : Net) (used : ℕ) → openOf bs ≡ acceptedOpening x used → IsImage bs x used
+only-images bs by x used q = go (start-shown bs)
+  where
+    read : (n o : ℕ) (b : List ℕ) → bs ≡ 1 ∷ n ∷ o ∷ b → freshNumber n o ≡ 0 → readRecords (length bs) (freshNet n o) 0 3 (drop 3 bs) ≡ acceptedOpening x used → IsImage bs x used
+    read n o b p ok r =
+        let f = fresh-effect n o in
+        let g = given (length bs) (freshNet n o) 0 3 (drop 3 bs) x used (bytes-drop bs 3 by) (omega arith) (λ i _ _. fresh-none n o i) (fresh-net n o ok) r in
+        let en : n ≡ x .nodes = sym (g .nodes ∙ f .nodes) in
+        let eo : o ≡ x .origin = sym (g .origin ∙ f .origin-is) in
+        let tail : b ≡ fromRank x 0 ++ (0 ∷ g .rest) = sym (ap (drop 3) p) ∙ g .bytes in
+        let whole : bs ≡ image x ++ g .rest =
+            p ∙ ap (λ (i : ℕ). 1 ∷ i ∷ o ∷ b) en ∙ ap (λ (i : ℕ). 1 ∷ x .nodes ∷ i ∷ b) eo ∙ ap (λ (l : List ℕ). 1 ∷ x .nodes ∷ x .origin ∷ l) tail ∙
+            image-front x (g .within) (g .rest) in
+        let u : used ≡ length (image x) = omega (arith, g .long, image-long x (g .within)) in
+        record {
+          within = g .within;
+          room = omega (arith, u, ap length whole, length-append (image x) (g .rest));
+          bytes = ap (take used) whole ∙ take-at (image x) (g .rest) used (sym u);
+        }
+
+    go : StartShown bs (recordOf Start 0 bs) → IsImage bs x used
+    go (a-stop e n p) = absurd (n (opening-number e 0 x used (sym (started-stop bs e p) ∙ q)))
+    go (a-header n o b p e) = by-number (eq-or-ne (freshNumber n o) 0)
+      where
+        opened : cond (eqb (freshNumber n o) 0) (readRecords (length bs) (freshNet n o) 0 3 (drop 3 bs)) (refusedOpening (freshNumber n o) 0) ≡ acceptedOpening x used
+        opened = sym (started-header bs n o e) ∙ q
+
+        by-number : (freshNumber n o ≡ 0) ⊎ (freshNumber n o ≢ 0) → IsImage bs x used
+        by-number (inl z) = read n o b p z (rw (eq-eqb (freshNumber n o) 0 z) at opened)
+        by-number (inr z) = absurd (z (opening-number (freshNumber n o) 0 x used (rw (ne-eqb (freshNumber n o) 0 z) at opened)))
+
+-- the image of every network within limits opens to that network, whatever follows
+pub reopening : Reopening
+reopening x w rest =
+    let n = x .nodes in
+    let o = x .origin in
+    let b = fromRank x 0 ++ (0 ∷ rest) in
+    let f = fresh-effect n o in
+    let ok = fresh-free n o (w .size) in
+    let l = length-append (fromRank x 0) (0 ∷ rest) in
+    ap openOf (sym (image-front x w rest)) ∙ started-header (1 ∷ n ∷ o ∷ b) n o (header-parse n o b) ∙
+    rw (eq-eqb (freshNumber n o) 0 ok)
+    (taken-all x w rest 2080 0 (length (1 ∷ n ∷ o ∷ b)) (freshNet n o) 0 3 refl (omega arith) (omega arith)
+        (record {
+            nodes = f .nodes;
+            origin = f .origin-is;
+            within = fresh-net n o ok;
+            agree = λ i a. absurd (omega arith);
+            none-from = λ i _ _. fresh-none n o i;
+          }) ∙
+    ap (acceptedOpening x) (sym (image-long x w)))
+
+-- opening accepts with this network and this count used exactly when the network is within limits and these bytes are its image
+pub acceptance : Acceptance
+acceptance bs by x used = (only-images bs by x used, back)
+  where
+    back : IsImage bs x used → openOf bs ≡ acceptedOpening x used
+    back i =
+        let whole : image x ++ drop used bs ≡ bs = ap (λ (l : List ℕ). l ++ drop used bs) (sym (i .bytes)) ∙ take-append-drop used bs in
+        let u : length (image x) ≡ used = ap length (sym (i .bytes)) ∙ length-take-le used bs (i .room) in
+        sym (ap openOf whole) ∙ reopening x (i .within) (drop used bs) ∙ ap (acceptedOpening x) u
