@@ -5,14 +5,17 @@ use mathlib.Core.Bool.{Bool, true, false, _&&_}
 use mathlib.Core.List.{List, [], _∷_}
 use mathlib.Core.Logic.{_⊎_, inl, inr}
 use Prim.Native.Nat.{ℕ}
+use lib.Dec.{eqb}
 use borrow.Author.Tests.{eqb-true, eqb-false, eq-eqb}
-use Rattle.ancestors.proofs.Cases.{bool-cases}
+use Rattle.ancestors.proofs.Cases.{bool-cases, cond-by}
 use Rattle.network.specs.Network.{Net, Outcome, outcome, Within}
 use Rattle.network.specs.Round.{Marks, marked, everyArc, roundNumber, round as roundWith}
 use Rattle.network.specs.Change.{changed, changeNumber, gradeCost, gradeNumber}
+use Rattle.network.specs.Route.{routeOf}
 use Rattle.network.proofs.Effects.{outcome-number, refused-net, accepted-net, change-outcome, grade-outcome, round-outcome, full-round-outcome, round-effect, change-effect}
 use Rattle.network.proofs.Keeping.{change-within, grade-within, round-within, full-round-within}
-use Rattle.settling.specs.Calls.{Call, change, grade, round, fullRound, called, accepted, after, alters, marksThen}
+use Rattle.records.specs.Image.{imageOf}
+use Rattle.settling.specs.Calls.{Call, change, grade, round, fullRound, route, writeImage, reads, called, accepted, after, alters, marksThen}
 
 -- the number that a call answers
 number : Net → Call → ℕ
@@ -20,6 +23,8 @@ number x (change s r c) = changeNumber x s r c
 number x (grade s r g) = gradeNumber x s r g
 number x (round ms) = roundNumber x ms
 number x fullRound = 0
+number x (route y out) = routeOf x y out .number
+number x (writeImage out) = imageOf x out .number
 
 -- the network that an accepted call gives
 next : Net → Call → Net
@@ -27,6 +32,13 @@ next x (change s r c) = changed x s r c
 next x (grade s r g) = changed x s r (gradeCost g)
 next x (round ms) = roundWith (marked ms) x
 next x fullRound = roundWith (everyArc x) x
+next x (route y out) = x
+next x (writeImage out) = x
+
+-- a reading call answers an outcome too
+reads-outcome : (x : Net) (k : ℕ) → reads x k ≡ outcome k x x
+unfolding outcome
+reads-outcome x k = ap (λ (z : Net). record { number = k; net = z }) (sym (cond-by (λ (z : Net). z ≡ x) (eqb k 0) x x (λ _. refl) (λ _. refl)))
 
 -- every call answers an outcome
 called-outcome : (x : Net) (c : Call) → called x c ≡ outcome (number x c) (next x c) x
@@ -35,6 +47,8 @@ called-outcome x (change s r c) = change-outcome x s r c
 called-outcome x (grade s r g) = grade-outcome x s r g
 called-outcome x (round ms) = round-outcome x ms
 called-outcome x fullRound = full-round-outcome x
+called-outcome x (route y out) = reads-outcome x (routeOf x y out .number)
+called-outcome x (writeImage out) = reads-outcome x (imageOf x out .number)
 
 -- and its number is the outcome's
 called-number : (x : Net) (c : Call) → called x c .number ≡ number x c
@@ -66,6 +80,8 @@ next-nodes x (change s r c) = change-effect x s r c .nodes
 next-nodes x (grade s r g) = change-effect x s r (gradeCost g) .nodes
 next-nodes x (round ms) = round-effect (marked ms) x .nodes
 next-nodes x fullRound = round-effect (everyArc x) x .nodes
+next-nodes x (route y out) = refl
+next-nodes x (writeImage out) = refl
 
 -- every call leaves the nodes
 called-nodes : (x : Net) (c : Call) → called x c .net .nodes ≡ x .nodes
@@ -82,6 +98,8 @@ called-within x w (change s r c) = change-within x w s r c
 called-within x w (grade s r g) = grade-within x w s r g
 called-within x w (round ms) = round-within x w ms
 called-within x w fullRound = full-round-within x w
+called-within x w (route y out) = w
+called-within x w (writeImage out) = w
 
 -- a list of calls leaves the nodes
 pub after-nodes : (x : Net) (cs : List Call) → after x cs .nodes ≡ x .nodes
@@ -107,7 +125,7 @@ refused-alters false e = e
 
 -- no change or grade is accepted in a stretch, so each of its calls is such a call
 pub call-effect : (x : Net) (c : Call) → (accepted x c && alters c) ≡ false → CallEffect x c
-unfolding marksThen next
+unfolding marksThen next called
 call-effect x (change s r c) e = no-effect (called-refused x (change s r c) (refused-alters (accepted x (change s r c)) e)) (λ ms. refl)
 call-effect x (grade s r g) e = no-effect (called-refused x (grade s r g) (refused-alters (accepted x (grade s r g)) e)) (λ ms. refl)
 call-effect x (round ws) e = go (bool-cases (accepted x (round ws)))
@@ -116,3 +134,5 @@ call-effect x (round ws) e = go (bool-cases (accepted x (round ws)))
     go (inl a) = one-round (marked ws) (called-accepted x (round ws) a) (λ ms. rw a)
     go (inr a) = no-effect (called-refused x (round ws) a) (λ ms. rw a)
 call-effect x fullRound e = one-round (everyArc x) (called-accepted x fullRound (full-accepted x)) (λ ms. refl)
+call-effect x (route y out) e = no-effect refl (λ ms. refl)
+call-effect x (writeImage out) e = no-effect refl (λ ms. refl)

@@ -16,7 +16,7 @@ use Rattle.network.specs.declared.Offer.{Offer}
 use Rattle.network.specs.declared.Offer.the-variants.{Nothing, Sum}
 use Rattle.network.specs.Change.{changed, changeNumber, changeOf, gradeOf}
 use Rattle.network.proofs.Distinct.{none-via}
-use Rattle.settling.specs.Calls.{Call, change, grade, round, fullRound, called, after}
+use Rattle.settling.specs.Calls.{Call, change, grade, round, fullRound, route, writeImage, called, after}
 
 -- x with other rows
 abbrev pub withRows : (ℕ → Row) → Net → Net
@@ -108,6 +108,8 @@ calledBy f x (change s r c) = changeOf x s r c .net
 calledBy f x (grade s r g) = gradeOf x s r g .net
 calledBy f x (round ms) = outcome (roundNumber x ms) (f (marked ms) x) x .net
 calledBy f x fullRound = outcome 0 (f (everyArc x) x) x .net
+calledBy f x (route y out) = x
+calledBy f x (writeImage out) = x
 
 unfoldable pub afterBy : (Marks → Net → Net) → Net → List Call → Net
 afterBy f x [] = x
@@ -120,6 +122,8 @@ called-right x (change s r c) = refl
 called-right x (grade s r g) = refl
 called-right x (round ms) = refl
 called-right x fullRound = refl
+called-right x (route y out) = refl
+called-right x (writeImage out) = refl
 
 pub after-right : (x : Net) (cs : List Call) → afterBy playRound x cs ≡ after x cs
 unfolding afterBy after

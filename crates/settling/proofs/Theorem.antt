@@ -1,4 +1,4 @@
--- Demand 3 over lists of change, grade and round calls, and the sharper bound.
+-- Demand 3 entire, and the sharper bound.
 -- Assumes nothing.
 use mathlib.Core.Path.{sym, subst}
 use mathlib.Core.List.{List}
@@ -7,7 +7,10 @@ use native.Mathlib.Omega.{arith}
 use native.Mathlib.Nat.{mul-le-mul-right}
 use lib.ListN.{length, getD}
 use Rattle.network.specs.Network.{Net, Within}
+use Rattle.network.proofs.Keeping.{fresh-within}
+use Rattle.records.proofs.Acceptance.{acceptance}
 use Rattle.settling.specs.Calls.{Call, after, Stretch, rounds, unmarked, HeardWithin, AllSettled, AllReal, roundsHeard, Settling, SettlingSooner}
+use Rattle.settling.specs.Demand.{Answered, by-fresh, by-open, Demand3}
 use Rattle.settling.proofs.Rounds.{rounds-real, rounds-settled}
 use Rattle.settling.proofs.CallLaws.{after-nodes, after-within}
 use Rattle.settling.proofs.Stretches.{afterRounds, stretch-after, stretch-rounds}
@@ -36,7 +39,7 @@ settling-sooner x within before stretch W s a =
     stretch-settled (after x before) (after-within x within before) stretch W (s .positive) (s .still) (s .heard)
     (subst (λ (n : ℕ). (2 * n - 3) * W ≤ roundsHeard x before stretch) (sym (after-nodes x before)) a)
 
--- demand 3 for every network within limits
+-- every network within limits settles
 pub settling : Settling
 settling x within before stretch W s =
     record {
@@ -47,3 +50,12 @@ settling x within before stretch W s =
   where
     fewer : (n : ℕ) → 2 * n - 3 ≤ 2 * (n - 1)
     fewer n = omega arith
+
+-- a network that an accepted fresh or open call answers is within limits
+answered-within : (x : Net) → Answered x → Within x
+answered-within x (by-fresh n o ok e) = subst Within e (fresh-within n o)
+answered-within x (by-open bs used bytes e) = acceptance bs bytes x used .0 e .within
+
+-- demand 3
+pub demand3 : Demand3
+demand3 x answered before stretch W s = settling x (answered-within x answered) before stretch W s

@@ -1,4 +1,4 @@
--- Demand 3 over lists of change, grade and round calls: document 01, "The settled row", second paragraph.
+-- Demand 3 over lists of change, grade, round and reading calls: document 01, "The settled row", second paragraph.
 -- Assumes nothing.
 use mathlib.Core.Path.{_≡_}
 use mathlib.Core.Bool.{Bool, true, false, cond, _&&_}
@@ -9,14 +9,23 @@ use lib.ListN.{length, getD}
 use Rattle.network.specs.Network.{Net, Outcome, Within}
 use Rattle.network.specs.Round.{Marks, marked, everyArc, roundOf, fullRoundOf}
 use Rattle.network.specs.Change.{changeOf, gradeOf}
+use Rattle.network.specs.Route.{routeOf}
+use Rattle.records.specs.Image.{imageOf}
 use Rattle.settling.specs.Settled.{Settled, Real}
 
--- a call with any arguments: sender, receiver and cost; sender, receiver and grade; a round's words of marks; a round with every arc heard
+-- a call with any arguments: sender, receiver and cost; sender, receiver and grade; a round's words of marks; a round with every arc heard;
+-- a route's node and output; an image's output
 pub data Call : Type 0 where
   change : ℕ → ℕ → ℕ → Call
   grade : ℕ → ℕ → ℕ → Call
   round : List ℕ → Call
   fullRound : Call
+  route : ℕ → List ℕ → Call
+  writeImage : List ℕ → Call
+
+-- reading calls leave the network as it stood
+abbrev pub reads : Net → ℕ → Outcome
+reads x k = record { number = k; net = x }
 
 -- what a call on x answers and leaves
 unfoldable pub called : Net → Call → Outcome
@@ -24,6 +33,8 @@ called x (change s r c) = changeOf x s r c
 called x (grade s r g) = gradeOf x s r g
 called x (round ms) = roundOf x ms
 called x fullRound = fullRoundOf x
+called x (route y out) = reads x (routeOf x y out .number)
+called x (writeImage out) = reads x (imageOf x out .number)
 
 -- a call is accepted if its number is 0
 unfoldable pub accepted : Net → Call → Bool
@@ -40,6 +51,8 @@ alters (change s r c) = true
 alters (grade s r g) = true
 alters (round ms) = false
 alters fullRound = false
+alters (route y out) = false
+alters (writeImage out) = false
 
 -- a stretch: no change or grade call is accepted, not even one that alters nothing
 pub data Stretch : Net → List Call → Type 0 where
@@ -52,6 +65,8 @@ marksThen x (change s r c) ms = ms
 marksThen x (grade s r g) ms = ms
 marksThen x (round ws) ms = cond (accepted x (round ws)) (marked ws ∷ ms) ms
 marksThen x fullRound ms = everyArc x ∷ ms
+marksThen x (route y out) ms = ms
+marksThen x (writeImage out) ms = ms
 
 -- a stretch's rounds are its accepted round calls: their marks, in order
 unfoldable pub rounds : Net → List Call → List Marks
@@ -93,8 +108,8 @@ pub record Promised (x : Net) (before stretch : List Call) (W : ℕ) : Type 0 wh
   pub settled : 2 * (x .nodes - 1) * W ≤ roundsHeard x before stretch → AllSettled (atEnd x before stretch)
   pub real : (x .nodes - 1) * W ≤ roundsHeard x before stretch → AllReal (atEnd x before stretch)
 
--- Demand 3 for every network within limits: for every list of calls, refused ones included, every W from 1, and every way to cut the list
--- into what comes before and the stretch.
+-- every network within limits settles: for every list of calls, refused ones included, every W from 1, and every way to cut the list into
+-- what comes before and the stretch
 abbrev pub Settling : Type 0
 Settling = (x : Net) → Within x → (before stretch : List Call) (W : ℕ) → Supposed x before stretch W → Promised x before stretch W
 
