@@ -87,8 +87,8 @@ given-next z next at bs len y n x used r none-from g =
     let below : (i : ℕ) → i < k → rankBytes x i ≡ rankBytes z i = λ i a. g .kept i (omega (arith, r .moved)) ∙ p .others i (λ e. omega arith) in
     let here : rankBytes x k ≡ r .w = g .kept k (omega (arith, r .moved)) ∙ p .here in
     let q : fromRank x next ≡ r .w ++ fromRank x n =
-        from-later x next k (r .above) (omega (arith, r .below)) (λ i a b. below i b ∙ none-from i a (omega (arith, r .below))) ∙
-        from-next x k (r .below) ∙ ap (λ (l : List ℕ). l ++ fromRank x (suc k)) here ∙ ap (λ (i : ℕ). r .w ++ fromRank x i) (sym (r .moved)) in
+    from-later x next k (r .above) (omega (arith, r .below)) (λ i a b. below i b ∙ none-from i a (omega (arith, r .below))) ∙
+    from-next x k (r .below) ∙ ap (λ (l : List ℕ). l ++ fromRank x (suc k)) here ∙ ap (λ (i : ℕ). r .w ++ fromRank x i) (sym (r .moved)) in
     let l = ap length q ∙ length-append (r .w) (fromRank x n) in
     record {
       rest = g .rest;
@@ -115,7 +115,7 @@ given (suc f) z next at bs x used by h none-from w q = go (given f) (placed z ne
     rec = recordOf Image at bs
 
     go : ((z : Net) (next at : ℕ) (bs : List ℕ) (x : Net) (used : ℕ) → Bytes bs → next ≤ 2080 → NoneFrom z next → Within z →
-            readRecords f z next at bs ≡ acceptedOpening x used → Given z next at bs x used) →
+        readRecords f z next at bs ≡ acceptedOpening x used → Given z next at bs x used) →
         (s : Step) → placed z next (rec .event) ≡ s →
         afterStep (λ y n. readRecords f y n (at + rec .length) (drop (rec .length) bs)) z at s ≡ acceptedOpening x used → Given z next at bs x used
     go again (stop e) p q = absurd (stop-at z next at bs e p (opening-number e at x used q))
@@ -129,7 +129,7 @@ given (suc f) z next at bs x used by h none-from w q = go (given f) (placed z ne
         let m = r .moved in
         given-next z next at bs (rec .length) y n x used r none-from
         (again y n (at + rec .length) (drop (rec .length) bs) x used (bytes-drop bs (rec .length) by) (omega (arith, r .below))
-            (λ i a b. r .placed-at .others i (λ e. omega arith) ∙ none-from i (omega (arith, r .above)) b) (r .placed-at .within) q)
+        (λ i a b. r .placed-at .others i (λ e. omega arith) ∙ none-from i (omega (arith, r .above)) b) (r .placed-at .within) q)
 
 -- ---- an image is accepted
 
@@ -178,7 +178,7 @@ module _ (x : Net) (wx : Within x) (rest : List ℕ) where
   -- one record, then the others
   taken-one : (d j f : ℕ) (z : Net) (next at : ℕ) → Taken z next j at (rankBytes x j) (rankBytes x j ++ (each (rankBytes x) (suc j) d ++ (0 ∷ rest))) →
       ((y : Net) → PlacedAt z y j (rankBytes x j) → readRecords f y (suc j) (at + length (rankBytes x j)) (each (rankBytes x) (suc j) d ++ (0 ∷ rest)) ≡
-          acceptedOpening x (at + length (rankBytes x j) + length (each (rankBytes x) (suc j) d) + 1)) →
+      acceptedOpening x (at + length (rankBytes x j) + length (each (rankBytes x) (suc j) d) + 1)) →
       readRecords (suc f) z next at (each (rankBytes x) j (suc d) ++ (0 ∷ rest)) ≡ acceptedOpening x (at + length (each (rankBytes x) j (suc d)) + 1)
   unfolding readRecords each
   taken-one d j f z next at t again =
@@ -207,7 +207,7 @@ module _ (x : Net) (wx : Within x) (rest : List ℕ) where
     where
       go : (rankBytes x j ≡ []) ⊎ (rankBytes x j ≢ []) →
           ((f : ℕ) (z : Net) (next at : ℕ) → suc j + d ≡ 2080 → next ≤ suc j → length (each (rankBytes x) (suc j) d) < f → Prefix x z (suc j) →
-              readRecords f z next at (each (rankBytes x) (suc j) d ++ (0 ∷ rest)) ≡ acceptedOpening x (at + length (each (rankBytes x) (suc j) d) + 1)) →
+          readRecords f z next at (each (rankBytes x) (suc j) d ++ (0 ∷ rest)) ≡ acceptedOpening x (at + length (each (rankBytes x) (suc j) d) + 1)) →
           length (rankBytes x j ++ each (rankBytes x) (suc j) d) ≡ length (rankBytes x j) + length (each (rankBytes x) (suc j) d) →
           readRecords (suc f) z next at (each (rankBytes x) j (suc d) ++ (0 ∷ rest)) ≡ acceptedOpening x (at + length (each (rankBytes x) j (suc d)) + 1)
       go (inl n) again l =
@@ -235,7 +235,7 @@ unfolding rankBytes ofPair ofNode reportBytes
 fresh-none n o i =
     all (ltb i 1024) (pair-none (i / 32) (i % 32) (arc-none (i / 32) (i % 32) _ (f .cost (i / 32) (i % 32))))
     (all (ltb i 1056) (node-none (i - 1024) (row-none (i - 1024) (eq-or-ne (i - 1024) o)))
-        (pair-none ((i - 1056) / 32) ((i - 1056) % 32) (ap (reportBytes ((i - 1056) / 32) ((i - 1056) % 32)) (f .held ((i - 1056) / 32) ((i - 1056) % 32)))))
+    (pair-none ((i - 1056) / 32) ((i - 1056) % 32) (ap (reportBytes ((i - 1056) / 32) ((i - 1056) % 32)) (f .held ((i - 1056) / 32) ((i - 1056) % 32)))))
   where
     f : FreshEffect n o (freshNet n o)
     f = fresh-effect n o
@@ -294,8 +294,8 @@ only-images bs by x used q = go (start-shown bs)
         let eo : o ≡ x .origin = sym (g .origin ∙ f .origin-is) in
         let tail : b ≡ fromRank x 0 ++ (0 ∷ g .rest) = sym (ap (drop 3) p) ∙ g .bytes in
         let whole : bs ≡ image x ++ g .rest =
-            p ∙ ap (λ (i : ℕ). 1 ∷ i ∷ o ∷ b) en ∙ ap (λ (i : ℕ). 1 ∷ x .nodes ∷ i ∷ b) eo ∙ ap (λ (l : List ℕ). 1 ∷ x .nodes ∷ x .origin ∷ l) tail ∙
-            image-front x (g .within) (g .rest) in
+        p ∙ ap (λ (i : ℕ). 1 ∷ i ∷ o ∷ b) en ∙ ap (λ (i : ℕ). 1 ∷ x .nodes ∷ i ∷ b) eo ∙ ap (λ (l : List ℕ). 1 ∷ x .nodes ∷ x .origin ∷ l) tail ∙
+        image-front x (g .within) (g .rest) in
         let u : used ≡ length (image x) = omega (arith, g .long, image-long x (g .within)) in
         record {
           within = g .within;
@@ -326,13 +326,13 @@ reopening x w rest =
     ap openOf (sym (image-front x w rest)) ∙ started-header (1 ∷ n ∷ o ∷ b) n o (header-parse n o b) ∙
     rw (eq-eqb (freshNumber n o) 0 ok)
     (taken-all x w rest 2080 0 (length (1 ∷ n ∷ o ∷ b)) (freshNet n o) 0 3 refl (omega arith) (omega arith)
-        (record {
-            nodes = f .nodes;
-            origin = f .origin-is;
-            within = fresh-net n o ok;
-            agree = λ i a. absurd (omega arith);
-            none-from = λ i _ _. fresh-none n o i;
-          }) ∙
+    (record {
+      nodes = f .nodes;
+      origin = f .origin-is;
+      within = fresh-net n o ok;
+      agree = λ i a. absurd (omega arith);
+      none-from = λ i _ _. fresh-none n o i;
+    }) ∙
     ap (acceptedOpening x) (sym (image-long x w)))
 
 -- opening accepts with this network and this count used exactly when the network is within limits and these bytes are its image

@@ -56,7 +56,7 @@ each-pair f s (suc d) =
     let p : suc d * 32 ≡ 32 + d * 32 = omega arith in
     let q : s * 32 + 32 ≡ suc s * 32 = omega arith in
     rw p (ap (λ (l : List ℕ). each (f s) 0 32 ++ l) (each-pair f (suc s) d) ∙ ap (λ (l : List ℕ). l ++ each g (suc s * 32) (d * 32)) one ∙
-        rw (← q) (sym (each-split g (s * 32) 32 (d * 32))))
+    rw (← q) (sym (each-split g (s * 32) 32 (d * 32))))
   where
     g : ℕ → List ℕ
     g k = f (k / 32) (k % 32)

@@ -1,7 +1,7 @@
 -- One record of an image: what a step that goes on has read, and that the record of a rank is taken.
 -- Assumes nothing.
 use mathlib.Core.Path.{_≡_, refl, sym, ap, subst, _∙_}
-use mathlib.Core.Bool.{Bool, true, false, cond}
+use mathlib.Core.Bool.{true, false, cond}
 use mathlib.Core.List.{List, [], _∷_, _++_}
 use mathlib.Core.Logic.{_⊎_, inl, inr, _≢_}
 use Prim.Native.Nat.{ℕ, suc, _+_, _-_, _/_, _%_, _<_, _≤_}
@@ -10,7 +10,7 @@ use lib.Dec.{eqb, ltb}
 use lib.ListN.{length, drop}
 use borrow.Author.Tests.{eqb-true, eqb-false, ltb-false, le-ltb}
 use Rattle.ancestors.proofs.Cases.{cond-by, bool-cases, eq-or-ne, le-or-lt}
-use Rattle.network.specs.Faults.{nodeFault, pairFault, rowFault, reportFault}
+use Rattle.network.specs.Faults.{nodeFault, pairFault}
 use Rattle.network.specs.Network.{Row, none, root, via, Report, empty, told, Net, Within, withRow, withHeld}
 use Rattle.network.specs.Placing.{placeRowNumber, placeReportNumber}
 use Rattle.network.specs.Change.{changed, changeNumber}
@@ -18,9 +18,9 @@ use Rattle.network.proofs.Accepting.{change-accepted, place-row-accepted, place
 use Rattle.network.proofs.FaultLaws.{cost-free, node-says, pair-says}
 use Rattle.network.proofs.Limits.{within-size, within-row, within-report}
 use Rattle.records.specs.Numbers.{Bytes}
-use Rattle.records.specs.Records.{arcRecord, rowRecord, reportRecord, eventOf, refusedRecord, recordOf}
-use Rattle.records.specs.Image.{arcBytes, rowBytes, reportBytes}
-use Rattle.records.specs.Ranks.{ofPair, ofNode, rankBytes}
+use Rattle.records.specs.Records.{arcRecord, rowRecord, reportRecord, eventOf, recordOf}
+use Rattle.records.specs.Image.{rowBytes, reportBytes}
+use Rattle.records.specs.Ranks.{rankBytes}
 use Rattle.records.specs.Opening.{arcRank, rowRank, reportRank, orderNumber, firstOf, arcNumber, rowNumber, reportNumber, Step, stop, finish, onward, judged, placed}
 use Rattle.records.specs.declared.ArcChange.the-variants.{Set, Removed}
 use Rattle.records.specs.declared.Event.{Event}
@@ -30,7 +30,6 @@ use Rattle.records.specs.declared.Section.the-variants.{Image}
 use Rattle.records.proofs.Parsing as P
 use Rattle.records.proofs.Parsing.{Shown, shown, arc-back, row-back, report-back, arc-parse, row-parse, report-parse}
 use Rattle.records.proofs.PlacedRecords.{pair-rank-small, rank-pair, arc-here, row-here, report-here, arc-off, row-off, report-off, arc-some, arc-none, PlacedAt, arc-placed, row-placed, report-placed}
-use Rattle.records.proofs.Ranks.{rank-arc, rank-row, rank-report}
 use Rattle.records.proofs.SameImage.{list-small, cost-said}
 use Rattle.records.proofs.Sizes.{arc-long, row-long, report-long}
 

@@ -1,10 +1,10 @@
 -- Records of an image and their bytes, both ways.
 -- Assumes nothing.
 use mathlib.Core.Path.{_≡_, refl, sym, ap, _∙_}
-use mathlib.Core.Bool.{Bool, true, false, cond, _||_, _&&_}
+use mathlib.Core.Bool.{true, false, _&&_}
 use mathlib.Core.List.{List, [], _∷_, _++_}
 use mathlib.Core.Logic.{_⊎_, inl, inr, _≢_}
-use Prim.Native.Nat.{ℕ, zero, suc, _+_, _*_, _/_, _%_, _<_, _≤_}
+use Prim.Native.Nat.{ℕ, suc, _+_, _*_, _%_, _<_, _≤_}
 use native.Mathlib.Omega.{arith}
 use lib.Dec.{eqb, ltb}
 use lib.ListN.{length, getD, take, drop, take-append-drop, drop-of-length-le}
@@ -13,13 +13,11 @@ use borrow.Author.Tests.{le-ltb, ne-eqb, eqb-true, eqb-false, ltb-true, ltb-fals
 use Rattle.ancestors.proofs.Cases.{bool-cases, cond-by, and-both}
 use Rattle.records.specs.Numbers.{Bytes, be8, be16, be32, num8, num16, num32}
 use Rattle.records.specs.Records.{arcRecord, rowRecord, reportRecord, bodyLength, bodyOf, arcChange, eventOf, allowed, refusedRecord, bodied, recordOf}
-use Rattle.records.specs.declared.ArcChange.{ArcChange}
 use Rattle.records.specs.declared.ArcChange.the-variants.{Set, Removed}
-use Rattle.records.specs.declared.Event.{Event}
-use Rattle.records.specs.declared.Event.the-variants.{End, Header, Change, Row, Report, Refusal}
+use Rattle.records.specs.declared.Event.the-variants.{End, Header, Change, Row, Report}
 use Rattle.records.specs.declared.Record.{Record}
 use Rattle.records.specs.declared.Section.the-variants.{Start, Image}
-use Rattle.records.proofs.NumberLaws.{be8-of, be16-of, be32-of, num16-of, num32-of, num16-small, num32-small}
+use Rattle.records.proofs.NumberLaws.{be8-of, be16-of, be32-of, num16-of, num32-of, num16-small}
 
 -- ---- bytes
 
@@ -119,9 +117,16 @@ arc-back at b s r c h l q =
     let f : (i : ℕ) → i < 4 → getD t i 0 < 256 = body-byte 2 b 4 h in
     let i = set-says (getD t 0 0) (getD t 1 0) (getD t 2 0 * 256 + getD t 3 0) s r c (cc) in
     let w : arcRecord s r c ≡ 2 ∷ t =
-        rw (← i .0, ← i .1, ← i .2, be8-of 2 (omega arith), be8-of (getD t 0 0) (f 0 (omega arith)), be8-of (getD t 1 0) (f 1 (omega arith)),
-          be16-of (getD t 2 0) (getD t 3 0) (f 2 (omega arith)) (f 3 (omega arith)))
-        (ap (λ (x : List ℕ). 2 ∷ x) (sym (list4 t (length-take-le 4 b l)))) in
+    rw (
+      ← i .0,
+      ← i .1,
+      ← i .2,
+      be8-of 2 (omega arith),
+      be8-of (getD t 0 0) (f 0 (omega arith)),
+      be8-of (getD t 1 0) (f 1 (omega arith)),
+      be16-of (getD t 2 0) (getD t 3 0) (f 2 (omega arith)) (f 3 (omega arith)),
+    )
+    (ap (λ (x : List ℕ). 2 ∷ x) (sym (list4 t (length-take-le 4 b l)))) in
     record {
       bytes = ap (λ (x : List ℕ). 2 ∷ x) (sym (take-append-drop 4 b)) ∙ sym (ap (λ (x : List ℕ). x ++ drop 4 b) w);
       fits = rw (← i .2) (num16-small (getD t 2 0) (getD t 3 0) (f 2 (omega arith)) (f 3 (omega arith)));
@@ -142,10 +147,18 @@ row-back at b y d p l h n q =
     let ep : getD t 5 0 ≡ p = cc in
     let el : (getD t 6 0 * 256 + getD t 7 0) * 65536 + (getD t 8 0 * 256 + getD t 9 0) ≡ l = cc in
     let w : rowRecord y d p l ≡ 3 ∷ t =
-        rw (← ey, ← ed, ← ep, ← el, be8-of 3 (omega arith), be8-of (getD t 0 0) (f 0 (omega arith)), be8-of (getD t 5 0) (f 5 (omega arith)),
-          be32-of (getD t 1 0) (getD t 2 0) (getD t 3 0) (getD t 4 0) (f 1 (omega arith)) (f 2 (omega arith)) (f 3 (omega arith)) (f 4 (omega arith)),
-          be32-of (getD t 6 0) (getD t 7 0) (getD t 8 0) (getD t 9 0) (f 6 (omega arith)) (f 7 (omega arith)) (f 8 (omega arith)) (f 9 (omega arith)))
-        (ap (λ (x : List ℕ). 3 ∷ x) (sym (list10 t (length-take-le 10 b n)))) in
+    rw (
+      ← ey,
+      ← ed,
+      ← ep,
+      ← el,
+      be8-of 3 (omega arith),
+      be8-of (getD t 0 0) (f 0 (omega arith)),
+      be8-of (getD t 5 0) (f 5 (omega arith)),
+      be32-of (getD t 1 0) (getD t 2 0) (getD t 3 0) (getD t 4 0) (f 1 (omega arith)) (f 2 (omega arith)) (f 3 (omega arith)) (f 4 (omega arith)),
+      be32-of (getD t 6 0) (getD t 7 0) (getD t 8 0) (getD t 9 0) (f 6 (omega arith)) (f 7 (omega arith)) (f 8 (omega arith)) (f 9 (omega arith)),
+    )
+    (ap (λ (x : List ℕ). 3 ∷ x) (sym (list10 t (length-take-le 10 b n)))) in
     record { bytes = ap (λ (x : List ℕ). 3 ∷ x) (sym (take-append-drop 10 b)) ∙ sym (ap (λ (x : List ℕ). x ++ drop 10 b) w) }
 
 -- a report's record was read
@@ -162,10 +175,18 @@ report-back at b s r d l h n q =
     let ed : (getD t 2 0 * 256 + getD t 3 0) * 65536 + (getD t 4 0 * 256 + getD t 5 0) ≡ d = cc in
     let el : (getD t 6 0 * 256 + getD t 7 0) * 65536 + (getD t 8 0 * 256 + getD t 9 0) ≡ l = cc in
     let w : reportRecord s r d l ≡ 4 ∷ t =
-        rw (← es, ← er, ← ed, ← el, be8-of 4 (omega arith), be8-of (getD t 0 0) (f 0 (omega arith)), be8-of (getD t 1 0) (f 1 (omega arith)),
-          be32-of (getD t 2 0) (getD t 3 0) (getD t 4 0) (getD t 5 0) (f 2 (omega arith)) (f 3 (omega arith)) (f 4 (omega arith)) (f 5 (omega arith)),
-          be32-of (getD t 6 0) (getD t 7 0) (getD t 8 0) (getD t 9 0) (f 6 (omega arith)) (f 7 (omega arith)) (f 8 (omega arith)) (f 9 (omega arith)))
-        (ap (λ (x : List ℕ). 4 ∷ x) (sym (list10 t (length-take-le 10 b n)))) in
+    rw (
+      ← es,
+      ← er,
+      ← ed,
+      ← el,
+      be8-of 4 (omega arith),
+      be8-of (getD t 0 0) (f 0 (omega arith)),
+      be8-of (getD t 1 0) (f 1 (omega arith)),
+      be32-of (getD t 2 0) (getD t 3 0) (getD t 4 0) (getD t 5 0) (f 2 (omega arith)) (f 3 (omega arith)) (f 4 (omega arith)) (f 5 (omega arith)),
+      be32-of (getD t 6 0) (getD t 7 0) (getD t 8 0) (getD t 9 0) (f 6 (omega arith)) (f 7 (omega arith)) (f 8 (omega arith)) (f 9 (omega arith)),
+    )
+    (ap (λ (x : List ℕ). 4 ∷ x) (sym (list10 t (length-take-le 10 b n)))) in
     record { bytes = ap (λ (x : List ℕ). 4 ∷ x) (sym (take-append-drop 10 b)) ∙ sym (ap (λ (x : List ℕ). x ++ drop 10 b) w) }
 
 -- ---- from the bytes to the event

@@ -4,9 +4,9 @@ use mathlib.Core.Path.{_≡_, refl, sym, ap, subst, _∙_}
 use mathlib.Core.Bool.{Bool, true, false, cond}
 use mathlib.Core.List.{List, []}
 use mathlib.Core.Logic.{_⊎_, inl, inr, _≢_}
-use Prim.Native.Nat.{ℕ, _+_, _*_, _-_, _/_, _%_, _<_, _≤_}
+use Prim.Native.Nat.{ℕ, _-_, _/_, _%_, _<_, _≤_}
 use native.Mathlib.Omega.{arith}
-use lib.Dec.{eqb, ltb}
+use lib.Dec.{ltb}
 use lib.ListN.{length}
 use borrow.Author.Tests.{eq-eqb, ne-eqb, ltb-true, ltb-false}
 use Rattle.ancestors.proofs.Cases.{eq-or-ne}
@@ -15,7 +15,6 @@ use Rattle.network.specs.Network.{Row, via, Report, empty, told, Net, Outcome, 
 use Rattle.network.specs.Placing.{placeRowNumber, placeReportNumber}
 use Rattle.network.specs.Change.{changed, changeNumber}
 use Rattle.network.proofs.Accepting.{change-accepted, place-row-accepted, place-report-accepted}
-use Rattle.network.proofs.Distinct.{empty-told}
 use Rattle.network.proofs.Effects.{accepted-net, change-outcome, place-row-outcome, place-report-outcome, SamePair, same-pair, change-effect, place-row-effect, place-report-effect}
 use Rattle.network.proofs.FaultLaws.{node-says, pair-says}
 use Rattle.network.proofs.Keeping.{change-within, place-row-within, place-report-within}
@@ -24,7 +23,7 @@ use Rattle.records.specs.Records.{arcRecord, rowRecord, reportRecord}
 use Rattle.records.specs.Image.{arcBytes, rowBytes, reportBytes}
 use Rattle.records.specs.Ranks.{ofPair, ofNode, rankBytes}
 use Rattle.records.specs.Opening.{arcRank, rowRank, reportRank}
-use Rattle.records.proofs.Ranks.{arcOf, rowOf, reportOf, rank-arc, rank-row, rank-report}
+use Rattle.records.proofs.Ranks.{rank-arc, rank-row, rank-report}
 use Rattle.records.proofs.Sizes.{arc-long}
 
 -- ---- ranks and pairs
@@ -60,12 +59,12 @@ unfolding rankBytes ofPair ofNode
 rank-same a b i n c w h =
     cond-same (ltb i 1024)
     (λ t. both (pairFault (a .nodes) (i / 32) (i % 32)) (pairFault (b .nodes) (i / 32) (i % 32)) (ap (λ (m : ℕ). pairFault m (i / 32) (i % 32)) n)
-        (ap (arcBytes (i / 32) (i % 32)) (c (ltb-true i 1024 t))))
+    (ap (arcBytes (i / 32) (i % 32)) (c (ltb-true i 1024 t))))
     (λ t. cond-same (ltb i 1056)
-        (λ u. both (nodeFault (a .nodes) (i - 1024)) (nodeFault (b .nodes) (i - 1024)) (ap (λ (m : ℕ). nodeFault m (i - 1024)) n)
-            (ap (rowBytes (i - 1024)) (w (ltb-false i 1024 t) (ltb-true i 1056 u))))
-        (λ u. both (pairFault (a .nodes) (j / 32) (j % 32)) (pairFault (b .nodes) (j / 32) (j % 32)) (ap (λ (m : ℕ). pairFault m (j / 32) (j % 32)) n)
-            (ap (reportBytes (j / 32) (j % 32)) (h (ltb-false i 1056 u)))))
+    (λ u. both (nodeFault (a .nodes) (i - 1024)) (nodeFault (b .nodes) (i - 1024)) (ap (λ (m : ℕ). nodeFault m (i - 1024)) n)
+    (ap (rowBytes (i - 1024)) (w (ltb-false i 1024 t) (ltb-true i 1056 u))))
+    (λ u. both (pairFault (a .nodes) (j / 32) (j % 32)) (pairFault (b .nodes) (j / 32) (j % 32)) (ap (λ (m : ℕ). pairFault m (j / 32) (j % 32)) n)
+    (ap (reportBytes (j / 32) (j % 32)) (h (ltb-false i 1056 u)))))
   where
     j : ℕ
     j = i - 1056
@@ -150,8 +149,8 @@ arc-placed x w s r c e n z =
     let none = no-arc s r (x .cost s r) (sym (arc-here x s r (omega (arith, pair .0)) (omega (arith, pair .1)) ok) ∙ z) (eq-or-ne (x .cost s r) 0) in
     record {
       here =
-        arc-here (changed x s r c) s r (omega (arith, pair .0)) (omega (arith, pair .1)) (rw (f .nodes) ok) ∙ ap (arcBytes s r) (f .cost-here) ∙
-        arc-some s r c n;
+          arc-here (changed x s r c) s r (omega (arith, pair .0)) (omega (arith, pair .1)) (rw (f .nodes) ok) ∙ ap (arcBytes s r) (f .cost-here) ∙
+          arc-some s r c n;
       others = λ i d. rank-same (changed x s r c) x i (f .nodes) (λ _. f .cost-else (i / 32) (i % 32) (other-pair i s r d))
           (λ _ _. ap (λ (g : ℕ → Row). g (i - 1024)) (f .row))
           (λ _. held none ((i - 1056) / 32) ((i - 1056) % 32) (same-pair ((i - 1056) / 32) ((i - 1056) % 32) s r));

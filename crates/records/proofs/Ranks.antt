@@ -3,11 +3,10 @@
 use mathlib.Core.Path.{_≡_, refl, sym, ap, _∙_}
 use mathlib.Core.Bool.{cond}
 use mathlib.Core.List.{List, [], _++_, append-assoc}
-use Prim.Native.Nat.{ℕ, _+_, _-_, _/_, _%_, _<_, _≤_}
+use Prim.Native.Nat.{ℕ, _+_, _-_, _<_}
 use native.Mathlib.Omega.{arith}
-use lib.Dec.{ltb}
 use borrow.Author.Tests.{lt-ltb, le-ltb}
-use Rattle.network.specs.Faults.{nodeFault, pairFault}
+use Rattle.network.specs.Faults.{pairFault}
 use Rattle.network.specs.Network.{Net}
 use Rattle.records.specs.Records.{endRecord, headerRecord}
 use Rattle.records.specs.Image.{each, arcBytes, rowBytes, reportBytes, byNode, byPair, image}
@@ -56,13 +55,13 @@ pub image-ranks : (x : Net) → image x ≡ headerRecord (x .nodes) (x .origin) 
 unfolding image
 image-ranks x =
     let a : byPair x (λ s r. arcBytes s r (x .cost s r)) ≡ each (rankBytes x) 0 1024 =
-        pair-ranks x (λ s r. arcBytes s r (x .cost s r)) ∙ each-same (arcOf x) (rankBytes x) 0 1024 (λ k _ h. sym (rank-arc x k h)) in
+    pair-ranks x (λ s r. arcBytes s r (x .cost s r)) ∙ each-same (arcOf x) (rankBytes x) 0 1024 (λ k _ h. sym (rank-arc x k h)) in
     let b : byNode x (λ y. rowBytes y (x .row y)) ≡ each (rankBytes x) 1024 32 =
-        node-ranks x (λ y. rowBytes y (x .row y)) ∙ each-same (rowOf x) (λ y. rankBytes x (1024 + y)) 0 32 (λ y _ h. sym (rank-row x y h)) ∙
-        each-shift (rankBytes x) 1024 0 32 in
+    node-ranks x (λ y. rowBytes y (x .row y)) ∙ each-same (rowOf x) (λ y. rankBytes x (1024 + y)) 0 32 (λ y _ h. sym (rank-row x y h)) ∙
+    each-shift (rankBytes x) 1024 0 32 in
     let c : byPair x (λ s r. reportBytes s r (x .held s r)) ≡ each (rankBytes x) 1056 1024 =
-        pair-ranks x (λ s r. reportBytes s r (x .held s r)) ∙ each-same (reportOf x) (λ k. rankBytes x (1056 + k)) 0 1024 (λ k _ _. sym (rank-report x k)) ∙
-        each-shift (rankBytes x) 1056 0 1024 in
+    pair-ranks x (λ s r. reportBytes s r (x .held s r)) ∙ each-same (reportOf x) (λ k. rankBytes x (1056 + k)) 0 1024 (λ k _ _. sym (rank-report x k)) ∙
+    each-shift (rankBytes x) 1056 0 1024 in
     rw (a, b, c)
 
 -- and so those of all 2,080 ranks

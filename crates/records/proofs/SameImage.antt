@@ -1,16 +1,15 @@
 -- A network within limits is decided by its size and the bytes of its ranks.
 -- Assumes nothing.
 use mathlib.Core.Path.{_≡_, refl, sym, ap, _∙_}
-use mathlib.Core.Bool.{Bool, true, false, cond}
+use mathlib.Core.Bool.{true, false}
 use mathlib.Core.List.{List, [], _∷_}
 use mathlib.Core.Logic.{_⊎_, inl, inr, _≢_}
-use Prim.Native.Nat.{ℕ, _+_, _*_, _%_, _^_, _<_, _≤_}
+use Prim.Native.Nat.{ℕ, _%_, _^_, _<_, _≤_}
 use native.Mathlib.Omega.{arith}
-use lib.Dec.{eqb}
 use lib.Pow.{pow-mono}
 use Rattle.ancestors.specs.Ancestors.{own}
-use Rattle.ancestors.proofs.Cases.{bool-cases, cond-by, eq-or-ne, le-or-lt, never}
-use Rattle.network.specs.Faults.{nodeFault, pairFault}
+use Rattle.ancestors.proofs.Cases.{bool-cases, eq-or-ne, le-or-lt, never}
+use Rattle.network.specs.Faults.{pairFault}
 use Rattle.network.specs.Network.{Row, none, root, via, Report, empty, told, Net, Within}
 use Rattle.network.proofs.Effects.{same-net}
 use Rattle.network.proofs.FaultLaws.{node-free, pair-says}
@@ -106,7 +105,7 @@ cost-said a b wa wb n s r e same =
     let hs : s < 32 = omega (arith, m .0) in
     let hr : r < 32 = omega (arith, m .1) in
     let q : arcBytes s r (a .cost s r) ≡ arcBytes s r (b .cost s r) =
-        sym (arc-here a s r hs hr e) ∙ same ∙ arc-here b s r hs hr (rw (← n) e) in
+    sym (arc-here a s r hs hr e) ∙ same ∙ arc-here b s r hs hr (rw (← n) e) in
     sym (cost-in s r (a .cost s r) (omega (arith, wa .arc-cost s r)) (eq-or-ne (a .cost s r) 0)) ∙ ap (λ (l : List ℕ). num16 l 3) q ∙
     cost-in s r (b .cost s r) (omega (arith, wb .arc-cost s r)) (eq-or-ne (b .cost s r) 0)
 
@@ -135,8 +134,8 @@ module _ (a b : Net) (wa : Within a) (wb : Within b) (n : a .nodes ≡ b .nodes)
   same-held s r (inr e) =
       let m = pair-small s r e in
       let q : reportBytes s r (a .held s r) ≡ reportBytes s r (b .held s r) =
-          sym (report-here a s r (m .1) e) ∙ same (reportRank s r) (omega (arith, pair-rank-small s r (m .0) (m .1))) ∙
-          report-here b s r (m .1) (rw (← n) e) in
+      sym (report-here a s r (m .1) e) ∙ same (reportRank s r) (omega (arith, pair-rank-small s r (m .0) (m .1))) ∙
+      report-here b s r (m .1) (rw (← n) e) in
       sym (held-said a wa s r (a .held s r) refl) ∙ ap reportIn q ∙ held-said b wb s r (b .held s r) refl
 
   relay-row : (y : ℕ) → y < a .nodes → y ≢ a .origin → a .row y ≡ b .row y
@@ -144,8 +143,8 @@ module _ (a b : Net) (wa : Within a) (wb : Within b) (n : a .nodes ≡ b .nodes)
   relay-row y h r =
       let few = within-size a wa .1 in
       let q : rowBytes y (a .row y) ≡ rowBytes y (b .row y) =
-          sym (row-here a y (omega arith) (node-free (a .nodes) y h)) ∙ same (rowRank y) (omega arith) ∙
-          row-here b y (omega arith) (rw (← n) (node-free (a .nodes) y h)) in
+      sym (row-here a y (omega arith) (node-free (a .nodes) y h)) ∙ same (rowRank y) (omega arith) ∙
+      row-here b y (omega arith) (rw (← n) (node-free (a .nodes) y h)) in
       sym (row-said a wa y r (a .row y) refl) ∙ ap rowIn q ∙ row-said b wb y (λ z. r (z ∙ sym o)) (b .row y) refl
 
   same-row : (y : ℕ) → (a .nodes ≤ y) ⊎ (y < a .nodes) → (y ≡ a .origin) ⊎ (y ≢ a .origin) → a .row y ≡ b .row y

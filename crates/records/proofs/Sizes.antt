@@ -8,7 +8,7 @@ use Prim.Native.Nat.{ℕ, suc, _+_, _*_, _-_, _<_, _≤_}
 use native.Mathlib.Omega.{arith}
 use lib.Dec.{eqb}
 use lib.ListN.{length, length-append}
-use Rattle.ancestors.proofs.Cases.{bool-cases, eq-or-ne, never}
+use Rattle.ancestors.proofs.Cases.{bool-cases}
 use Rattle.network.specs.Faults.{pairFault, nodeFault}
 use Rattle.network.specs.Network.{Row, none, root, via, Report, empty, told, Net, Within}
 use Rattle.network.proofs.FaultLaws.{pair-says}

@@ -15,3 +15,4 @@ pub mod Computed
 pub mod Tight
 pub mod Example
 pub mod FalseRelays
+pub mod Field

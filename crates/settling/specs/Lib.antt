@@ -1,3 +1,4 @@
 pub mod Settled
 pub mod Calls
 pub mod Demand
+pub mod Field
