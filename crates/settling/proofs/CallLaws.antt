@@ -55,7 +55,7 @@ called-number : (x : Net) (c : Call) → called x c .number ≡ number x c
 called-number x c = ap (λ (o : Outcome). o .number) (called-outcome x c) ∙ outcome-number (number x c) (next x c) x
 
 -- a refused call leaves the network
-called-refused : (x : Net) (c : Call) → accepted x c ≡ false → called x c .net ≡ x
+pub called-refused : (x : Net) (c : Call) → accepted x c ≡ false → called x c .net ≡ x
 unfolding accepted
 called-refused x c e =
     ap (λ (o : Outcome). o .net) (called-outcome x c) ∙

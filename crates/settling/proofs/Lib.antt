@@ -16,3 +16,4 @@ pub mod Tight
 pub mod Example
 pub mod FalseRelays
 pub mod Field
+pub mod RunCalls
