@@ -219,7 +219,7 @@ module _ (x : Net) (wx : Within x) (rest : List ℕ) where
 -- ---- the fresh network that a file starts from
 
 -- it is within limits
-fresh-net : (n o : ℕ) → freshNumber n o ≡ 0 → Within (freshNet n o)
+pub fresh-net : (n o : ℕ) → freshNumber n o ≡ 0 → Within (freshNet n o)
 fresh-net n o e =
     subst Within (ap (λ (c : Outcome). c .net) (fresh-outcome n o) ∙ accepted-net (freshNumber n o) (freshNet n o) (freshNet 1 0) e) (fresh-within n o)
 
@@ -273,12 +273,12 @@ image-long x w =
     omega arith
 
 -- what the first record leads to
-started-header : (bs : List ℕ) (n o : ℕ) → recordOf Start 0 bs ≡ record { event = Header n o; length = 3 } →
+pub started-header : (bs : List ℕ) (n o : ℕ) → recordOf Start 0 bs ≡ record { event = Header n o; length = 3 } →
     openOf bs ≡ cond (eqb (freshNumber n o) 0) (readRecords (length bs) (freshNet n o) 0 3 (drop 3 bs)) (refusedOpening (freshNumber n o) 0)
 unfolding openOf started
 started-header bs n o e = ap (λ (r : Record). started bs r (r .event)) e
 
-started-stop : (bs : List ℕ) (e : ℕ) → recordOf Start 0 bs ≡ refusedRecord e 0 → openOf bs ≡ refusedOpening e 0
+pub started-stop : (bs : List ℕ) (e : ℕ) → recordOf Start 0 bs ≡ refusedRecord e 0 → openOf bs ≡ refusedOpening e 0
 unfolding openOf started
 started-stop bs e p = ap (λ (r : Record). started bs r (r .event)) p
 

@@ -7,3 +7,4 @@ pub mod PlacedRecords
 pub mod SameImage
 pub mod ImageSteps
 pub mod Acceptance
+pub mod Opened

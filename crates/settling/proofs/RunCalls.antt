@@ -14,7 +14,7 @@ use Rattle.ancestors.proofs.Cases.{eq-or-ne}
 use Rattle.network.specs.Network.{Net, Outcome, outcome, Within}
 use Rattle.network.proofs.Effects.{accepted-net, refused-net}
 use Rattle.network.specs.Round.{Marks, marked}
-use Rattle.records.specs.Numbers.{words}
+use Rattle.records.specs.Numbers.{Bytes, words}
 use Rattle.records.specs.Records.{bodyOf, recordOf}
 use Rattle.records.specs.Opening.{Opening, openOf}
 use Rattle.records.specs.Running.{eventDone, roundsIn, Running, afterEvent, readEvents, runFrom, runOf}
@@ -23,8 +23,9 @@ use Rattle.records.specs.declared.Event.{Event}
 use Rattle.records.specs.declared.Event.the-variants as E
 use Rattle.records.specs.declared.Record.{Record}
 use Rattle.records.specs.declared.Section.the-variants.{Events}
+use Rattle.records.proofs.Opened.{open-within}
 use Rattle.settling.specs.Calls.{Call, change, grade, round, fullRound, route, writeImage, called, accepted, after, marksThen, rounds}
-use Rattle.settling.proofs.CallLaws.{called-refused}
+use Rattle.settling.proofs.CallLaws.{called-refused, after-within}
 
 -- a running answer is that of a list of calls on x, after n rounds
 pub record RanAs (x : Net) (n : ℕ) (r : Running) : Type 0 where
@@ -140,3 +141,7 @@ run-calls bs = go (eq-or-ne (openOf bs .number) 0)
     go : (openOf bs .number ≡ 0) ⊎ (openOf bs .number ≢ 0) → RanAs (openOf bs .net) 0 (runOf bs)
     go (inl z) = rw (eq-eqb (openOf bs .number) 0 z) (events-as (length bs) (openOf bs .net) 0 (openOf bs .used) (drop (openOf bs .used) bs))
     go (inr z) = rw (ne-eqb (openOf bs .number) 0 z) (no-calls (openOf bs .net) 0 _ refl refl)
+
+-- the network that a run answers is within limits
+pub run-within : (bs : List ℕ) → Bytes bs → Within (runOf bs .net)
+run-within bs by = let r = run-calls bs in rw (r .net) (after-within (openOf bs .net) (open-within bs by) (r .calls))
