@@ -8,3 +8,4 @@ pub mod SameImage
 pub mod ImageSteps
 pub mod Acceptance
 pub mod Opened
+pub mod ImageBytes
