@@ -1,7 +1,7 @@
 -- From tests that compute over a concrete list of calls to what demand 3 supposes of it.
 -- Assumes nothing.
-use mathlib.Core.Path.{_≡_}
-use mathlib.Core.Bool.{Bool, true, false, not, _&&_}
+use mathlib.Core.Path.{_≡_, _∙_}
+use mathlib.Core.Bool.{Bool, true, false, not, _&&_, and-comm}
 use mathlib.Core.List.{List, [], _∷_}
 use Prim.Native.Nat.{ℕ, _+_, _<_, _≤_}
 use native.Mathlib.Omega.{arith}
@@ -18,14 +18,14 @@ use Rattle.settling.specs.Calls.{Call, called, accepted, alters, after, 
 -- no change or grade call is accepted
 unfoldable pub still : Net → List Call → Bool
 still x [] = true
-still x (c ∷ cs) = not (accepted x c && alters c) && still (called x c .net) cs
+still x (c ∷ cs) = not (alters c && accepted x c) && still (called x c .net) cs
 
 pub stretch-by : (x : Net) (cs : List Call) → still x cs ≡ true → Stretch x cs
 unfolding still
 stretch-by x [] e = end
 stretch-by x (c ∷ cs) e =
-    let k = and-both (not (accepted x c && alters c)) (still (called x c .net) cs) e in
-    step (not-true (accepted x c && alters c) (k .0)) (stretch-by (called x c .net) cs (k .1))
+    let k = and-both (not (alters c && accepted x c)) (still (called x c .net) cs) e in
+    step (and-comm (accepted x c) (alters c) ∙ not-true (alters c && accepted x c) (k .0)) (stretch-by (called x c .net) cs (k .1))
 
 -- the arc from s to r is not heard in the W rounds from the i-th on
 unfoldable pub unheard : ℕ → List Marks → ℕ → ℕ → ℕ → Bool

@@ -2,10 +2,10 @@
 -- Assumes nothing.
 use mathlib.Core.Path.{_≡_, refl}
 use mathlib.Core.Bool.{true, false}
-use mathlib.Core.List.{List, [], _∷_}
+use mathlib.Core.List.{List, [], _∷_, _++_, append-nil}
 use Prim.Native.Nat.{ℕ, _*_, _-_, _≤_}
 use native.Mathlib.Omega.{arith}
-use lib.ListN.{replicate}
+use lib.ListN.{length, replicate}
 use Rattle.ancestors.specs.Ancestors.{has, put}
 use Rattle.network.specs.Faults.{sizeFault, nodeFault, pairFault, costFault, gradeFault, originFault, rowLabelFault, reportLabelFault, predecessorFault, listFault, arcFault, rowFault, reportFault}
 use Rattle.network.specs.Network.{via, Net, setAt, setPair, withCost, withRow, withHeld, outcome, freshNet, freshNumber, freshOf, Within}
@@ -13,10 +13,14 @@ use Rattle.network.specs.Placing.{placeRowNumber, placeRowOf, placeReportNumber
 use Rattle.network.specs.Round.{report, hear, offer, against, winner, listOf, rowBy, choice, renewTo, renew, marked, some, strayMark, idleMark, roundNumber, roundOf, everyArc, fullRoundOf, round as playRound}
 use Rattle.network.specs.Change.{changed, changeNumber, changeOf, gradeCost, gradeNumber, gradeOf}
 use Rattle.network.proofs.Keeping.{fresh-within, change-within, place-row-within, place-report-within}
-use Rattle.settling.specs.Calls.{Call, change, grade, round, fullRound, called, accepted, after, marksThen, rounds, AllSettled, Supposed, atEnd, roundsHeard}
+use Rattle.records.specs.Image.{image}
+use Rattle.records.proofs.Acceptance.{reopening}
+use Rattle.records.proofs.ImageBytes.{image-bytes}
+use Rattle.settling.specs.Calls.{Call, change, grade, round, fullRound, route, writeImage, called, accepted, after, marksThen, rounds, AllSettled, Supposed, atEnd, roundsHeard}
+use Rattle.settling.specs.Demand.{Answered, by-open}
 use Rattle.settling.proofs.CallLaws.{after-within}
 use Rattle.settling.proofs.Computed.{still, unheard, missed, supposed-by}
-use Rattle.settling.proofs.Theorem.{settling}
+use Rattle.settling.proofs.Theorem.{demand3}
 
 -- document 01's four-node field but for the arc from 1 to 0, built by calls, with no routes
 abbrev arcs : Net
@@ -40,11 +44,12 @@ half = 0 ∷ 4 ∷ 8 ∷ 1 ∷ replicate 28 0
 abbrev rest : List ℕ
 rest = 8 ∷ 0 ∷ 2 ∷ 4 ∷ replicate 28 0
 
--- twelve accepted rounds, with a mark on a pair without an arc, marks of one word, a loop and a grade above 15, all refused, among them
+-- twelve accepted rounds; among them, all refused, a mark on a pair without an arc, marks of one word, a loop, a grade above 15, a route into
+-- no output, and an image into no output; and a route that is written
 unfoldable pub stretch : List Call
 stretch =
     round half ∷ round rest ∷ round (0 ∷ 1 ∷ replicate 30 0) ∷ round half ∷ fullRound ∷ round half ∷ change 1 1 5 ∷ round rest ∷ fullRound ∷
-    round (4 ∷ []) ∷ round rest ∷ round half ∷ grade 1 2 16 ∷ round rest ∷ round half ∷ round rest ∷ []
+    round (4 ∷ []) ∷ round rest ∷ route 1 [] ∷ round half ∷ grade 1 2 16 ∷ round rest ∷ writeImage [] ∷ round half ∷ round rest ∷ route 3 (0 ∷ 0 ∷ []) ∷ []
 
 pub example-within : Within field
 unfolding field
@@ -76,9 +81,15 @@ supposed-example = supposed-by field before stretch 2 (omega arith) (after-withi
 pub example-rounds : 2 * (field .nodes - 1) * 2 ≤ roundsHeard field before stretch
 example-rounds = omega (arith, facts .count)
 
+-- its image opens to it
+pub example-answered : Answered field
+example-answered =
+    let i = image field in
+    by-open (i ++ []) (length i) (rw (append-nil i) (image-bytes field)) (reopening field example-within [])
+
 -- demand 3 then says that every row is settled, here with label 6 at node 1
 pub example-settled : AllSettled (atEnd field before stretch)
-example-settled = settling field example-within before stretch 2 supposed-example .settled example-rounds
+example-settled = demand3 field example-answered before stretch 2 supposed-example .settled example-rounds
 
 pub example-row : atEnd field before stretch .row 1 ≡ via 6 2 15
 example-row = facts .row-one

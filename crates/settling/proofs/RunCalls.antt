@@ -7,7 +7,6 @@ use mathlib.Core.Logic.{_⊎_, inl, inr, _≢_}
 use Prim.Native.Nat.{ℕ, zero, suc, _+_}
 use native.Mathlib.Omega.{arith}
 use native.Mathlib.Nat.{zero-add}
-use lib.Dec.{eqb}
 use lib.ListN.{length, drop}
 use borrow.Author.Tests.{eq-eqb, ne-eqb}
 use Rattle.ancestors.proofs.Cases.{eq-or-ne}
@@ -16,7 +15,7 @@ use Rattle.network.proofs.Effects.{accepted-net, refused-net}
 use Rattle.network.specs.Round.{Marks, marked}
 use Rattle.records.specs.Numbers.{Bytes, words}
 use Rattle.records.specs.Records.{bodyOf, recordOf}
-use Rattle.records.specs.Opening.{Opening, openOf}
+use Rattle.records.specs.Opening.{openOf}
 use Rattle.records.specs.Running.{eventDone, roundsIn, Running, afterEvent, readEvents, runFrom, runOf}
 use Rattle.records.specs.declared.ArcChange.the-variants.{Set, Removed}
 use Rattle.records.specs.declared.Event.{Event}
