@@ -60,19 +60,19 @@ stop-onward e z n q = let y : _≡_ {A = ℕ} 0 1 = cc in absurd (omega arith)
 judged-onward : (e : ℕ) (x : Net) (k : ℕ) (z : Net) (n : ℕ) → judged e x k ≡ onward z n → (e ≡ 0) × (z ≡ x) × (n ≡ suc k)
 unfolding judged
 judged-onward e x k z n =
-    cond-by (λ w. w ≡ onward z n → (e ≡ 0) × (z ≡ x) × (n ≡ suc k)) (eqb e 0) (onward x (suc k)) (stop e)
+    cond-by (λ w. w ≡ onward z n → (e ≡ 0) × (z ≡ x) × (n ≡ suc k)) (eqb e 0) _ _
     (λ t q. (eqb-true e 0 t, (cc), (cc))) (λ _ q. stop-onward e z n q)
 
 judged-finish : (e : ℕ) (x : Net) (k : ℕ) → judged e x k ≡ finish → ⊥
 unfolding judged
 judged-finish e x k =
-    cond-by (λ w. w ≡ finish → ⊥) (eqb e 0) (onward x (suc k)) (stop e)
+    cond-by (λ w. w ≡ finish → ⊥) (eqb e 0) _ _
     (λ _ q. let y : _≡_ {A = ℕ} 0 1 = cc in absurd (omega arith)) (λ _ q. let y : _≡_ {A = ℕ} 0 1 = cc in absurd (omega arith))
 
 judged-stop : (e : ℕ) (x : Net) (k d : ℕ) → judged e x k ≡ stop d → d ≢ 0
 unfolding judged
 judged-stop e x k d =
-    cond-by (λ w. w ≡ stop d → d ≢ 0) (eqb e 0) (onward x (suc k)) (stop e)
+    cond-by (λ w. w ≡ stop d → d ≢ 0) (eqb e 0) _ _
     (λ _ q. let y : _≡_ {A = ℕ} 0 1 = cc in absurd (omega arith)) (λ t q z. let y : e ≡ d = cc in eqb-false e 0 t (y ∙ z))
 
 -- ---- what a step says of the event
