@@ -21,7 +21,6 @@ use Rattle.network.proofs.Limits.{within-size}
 use Rattle.records.specs.Numbers.{Bytes, be8}
 use Rattle.records.specs.Records.{endRecord, headerRecord, refusedRecord, recordOf}
 use Rattle.records.specs.Image.{each, rowBytes, reportBytes, image}
-use Rattle.records.specs.Ranks.{ofPair, ofNode, rankBytes}
 use Rattle.records.specs.Opening.{Step, stop, finish, onward, placed, Opening, refusedOpening, acceptedOpening, afterStep, readRecords, started, openOf}
 use Rattle.records.specs.Acceptance.{IsImage, Acceptance, Reopening}
 use Rattle.records.specs.declared.Event.the-variants.{Header}
@@ -31,7 +30,7 @@ use Rattle.records.proofs.Each.{each-split, each-none}
 use Rattle.records.proofs.ImageSteps.{ReadAt, NoneFrom, read-at, end-at, stop-at, Prefix, Taken, takes}
 use Rattle.records.proofs.Parsing.{bytes-drop, end-parse, StartShown, a-header, a-stop, start-shown, header-parse}
 use Rattle.records.proofs.PlacedRecords.{arc-none, PlacedAt}
-use Rattle.records.proofs.Ranks.{image-whole}
+use Rattle.records.proofs.Ranks.{ofPair, ofNode, rankBytes, image-whole}
 use Rattle.records.proofs.SameImage.{same-image}
 
 -- ---- the bytes of x from the rank k on

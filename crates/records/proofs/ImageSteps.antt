@@ -20,13 +20,13 @@ use Rattle.network.proofs.Limits.{within-size, within-row, within-report}
 use Rattle.records.specs.Numbers.{Bytes}
 use Rattle.records.specs.Records.{arcRecord, rowRecord, reportRecord, eventOf, recordOf}
 use Rattle.records.specs.Image.{rowBytes, reportBytes}
-use Rattle.records.specs.Ranks.{rankBytes}
 use Rattle.records.specs.Opening.{arcRank, rowRank, reportRank, orderNumber, firstOf, arcNumber, rowNumber, reportNumber, Step, stop, finish, onward, judged, placed}
 use Rattle.records.specs.declared.ArcChange.the-variants.{Set, Removed}
 use Rattle.records.specs.declared.Event.{Event}
 use Rattle.records.specs.declared.Event.the-variants as E
 use Rattle.records.specs.declared.Record.{Record}
 use Rattle.records.specs.declared.Section.the-variants.{Image}
+use Rattle.records.proofs.Ranks.{rankBytes}
 use Rattle.records.proofs.Parsing as P
 use Rattle.records.proofs.Parsing.{Shown, shown, arc-back, row-back, report-back, arc-parse, row-parse, report-parse}
 use Rattle.records.proofs.PlacedRecords.{pair-rank-small, rank-pair, arc-here, row-here, report-here, arc-off, row-off, report-off, arc-some, arc-none, PlacedAt, arc-placed, row-placed, report-placed}

@@ -21,9 +21,8 @@ use Rattle.network.proofs.Keeping.{change-within, place-row-within, place-repor
 use Rattle.network.proofs.Limits.{within-size, within-report}
 use Rattle.records.specs.Records.{arcRecord, rowRecord, reportRecord}
 use Rattle.records.specs.Image.{arcBytes, rowBytes, reportBytes}
-use Rattle.records.specs.Ranks.{ofPair, ofNode, rankBytes}
 use Rattle.records.specs.Opening.{arcRank, rowRank, reportRank}
-use Rattle.records.proofs.Ranks.{rank-arc, rank-row, rank-report}
+use Rattle.records.proofs.Ranks.{ofPair, ofNode, rankBytes, rank-arc, rank-row, rank-report}
 use Rattle.records.proofs.Sizes.{arc-long}
 
 -- ---- ranks and pairs

@@ -1,17 +1,32 @@
--- An image by ranks: the bytes of its records in image order.
+-- The record at each rank of image order, ranks 0 to 2,079: arcs, rows, reports. An image is these records one after another.
 -- Assumes nothing.
 use mathlib.Core.Path.{_≡_, refl, sym, ap, _∙_}
 use mathlib.Core.Bool.{cond}
 use mathlib.Core.List.{List, [], _++_, append-assoc}
-use Prim.Native.Nat.{ℕ, _+_, _-_, _<_}
+use Prim.Native.Nat.{ℕ, _+_, _-_, _/_, _%_, _<_}
 use native.Mathlib.Omega.{arith}
+use lib.Dec.{ltb}
 use borrow.Author.Tests.{lt-ltb, le-ltb}
-use Rattle.network.specs.Faults.{pairFault}
+use Rattle.network.specs.Faults.{nodeFault, pairFault}
 use Rattle.network.specs.Network.{Net}
 use Rattle.records.specs.Records.{endRecord, headerRecord}
 use Rattle.records.specs.Image.{each, arcBytes, rowBytes, reportBytes, byNode, byPair, image}
-use Rattle.records.specs.Ranks.{ofPair, ofNode, rankBytes}
 use Rattle.records.proofs.Each.{each-same, each-split, each-shift, each-pair}
+
+-- f of the pair numbered k, by sender then receiver, if it is one of different nodes
+unfoldable pub ofPair : ℕ → (ℕ → ℕ → List ℕ) → ℕ → List ℕ
+ofPair n f k = cond (pairFault n (k / 32) (k % 32)) [] (f (k / 32) (k % 32))
+
+-- f of y, if it is a node
+unfoldable pub ofNode : ℕ → (ℕ → List ℕ) → ℕ → List ℕ
+ofNode n f y = cond (nodeFault n y) [] (f y)
+
+-- the bytes of the record of rank k, none where the network has no such record
+unfoldable pub rankBytes : Net → ℕ → List ℕ
+rankBytes x k =
+    cond (ltb k 1024) (ofPair (x .nodes) (λ s r. arcBytes s r (x .cost s r)) k)
+    (cond (ltb k 1056) (ofNode (x .nodes) (λ y. rowBytes y (x .row y)) (k - 1024))
+    (ofPair (x .nodes) (λ s r. reportBytes s r (x .held s r)) (k - 1056)))
 
 -- the bytes of x's arc, row and report by the number of the pair or node
 abbrev pub arcOf : Net → ℕ → List ℕ

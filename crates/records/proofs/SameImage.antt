@@ -17,8 +17,8 @@ use Rattle.network.proofs.Limits.{within-size, within-row, within-report}
 use Rattle.records.specs.Numbers.{be8, be16, be32, num8, num16, num32}
 use Rattle.records.specs.Records.{arcRecord, rowRecord, reportRecord}
 use Rattle.records.specs.Image.{arcBytes, rowBytes, reportBytes}
-use Rattle.records.specs.Ranks.{rankBytes}
 use Rattle.records.specs.Opening.{arcRank, rowRank, reportRank}
+use Rattle.records.proofs.Ranks.{rankBytes}
 use Rattle.records.proofs.NumberLaws.{num16-of, num32-of}
 use Rattle.records.proofs.PlacedRecords.{pair-rank-small, arc-here, row-here, report-here, arc-some, arc-none}
 

@@ -1,7 +1,6 @@
 pub mod Numbers
 pub mod Records
 pub mod Image
-pub mod Ranks
 pub mod Opening
 pub mod Acceptance
 pub mod Running
