@@ -12,3 +12,4 @@ pub mod RoundLimits
 pub mod Keeping
 mod Least
 mod Bits
+pub mod Walking

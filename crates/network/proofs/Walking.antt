@@ -1,0 +1,174 @@
+-- Laws of the walk along predecessors: its steps, that its bound on nodes breaks no walk, and what it reaches.
+-- Assumes nothing.
+use mathlib.Core.Path.{_≡_, refl, sym, ap, subst, _∙_}
+use mathlib.Core.Bool.{true, false, cond}
+use mathlib.Core.Logic.{_⊎_, inl, inr, ⊎-elim}
+use mathlib.Core.List.{List, [], _∷_, _++_, List·Memᴰ, List·Memᴰ·cases-cons, List·Memᴰ·not-nil}
+use Prim.Native.Nat.{ℕ, zero, suc, _+_, _<_, _≤_}
+use native.Mathlib.Omega.{arith}
+use lib.ListN.{length}
+use Rattle.ancestors.specs.Ancestors.{has, put, count}
+use Rattle.ancestors.proofs.Cases.{bool-cases, never}
+use Rattle.ancestors.proofs.Counting.{count-le, count-more}
+use Rattle.ancestors.proofs.Laws.{has-put-same, has-kept}
+use Rattle.network.specs.Faults.{maxNodes, nodeFault}
+use Rattle.network.specs.Network.{Row, none, root, via, Net}
+use Rattle.network.specs.Route.{routeRow, Walked, broken, reached, walkAt, walk, walkBack, unrouted}
+use Rattle.network.proofs.FaultLaws.{node-says}
+
+-- what has a route is a node, with its own row
+pub routed : (x : Net) (y : ℕ) → unrouted (routeRow x y) ≡ false → (y < x .nodes) × (routeRow x y ≡ x .row y)
+unfolding routeRow unrouted
+routed x y e = go (bool-cases (nodeFault (x .nodes) y))
+  where
+    go : (nodeFault (x .nodes) y ≡ true) ⊎ (nodeFault (x .nodes) y ≡ false) →
+        (y < x .nodes) × (cond (nodeFault (x .nodes) y) none (x .row y) ≡ x .row y)
+    go (inl f) = never true refl (rw f at e)
+    go (inr f) = (node-says (x .nodes) y f, rw f)
+
+-- ---- a step of the walk
+
+-- with no node left
+pub walk-spent : (x : Net) (y met : ℕ) (route : List ℕ) → walk zero x y met route ≡ broken
+unfolding walk
+walk-spent x y met route = refl
+
+-- at a node already met; else by its row
+module _ (k : ℕ) (x : Net) (y met : ℕ) (route : List ℕ) where
+  pub walk-again : has met y ≡ true → walk (suc k) x y met route ≡ broken
+  unfolding walk
+  walk-again e = rw e
+
+  module _ (new : has met y ≡ false) where
+    pub walk-lost : routeRow x y ≡ none → walk (suc k) x y met route ≡ broken
+    unfolding walk walkAt
+    walk-lost r = rw (new, r)
+
+    pub walk-arrived : (l : ℕ) → routeRow x y ≡ root l → walk (suc k) x y met route ≡ reached (y ∷ route)
+    unfolding walk walkAt
+    walk-arrived l r = rw (new, r)
+
+    pub walk-onward : (d p l : ℕ) → routeRow x y ≡ via d p l → walk (suc k) x y met route ≡ walk k x p (put met y) (y ∷ route)
+    unfolding walk walkAt
+    walk-onward d p l r = rw (new, r)
+
+-- ---- document 01's walk, with no bound on its nodes
+
+-- the walk from y, with the nodes met before and the route from there on, comes to w
+pub data Walks (x : Net) : ℕ → ℕ → List ℕ → Walked → Type 0 where
+  -- at a node already met
+  again : {y met : ℕ} {route : List ℕ} → has met y ≡ true → Walks x y met route broken
+  -- at a node without a route
+  lost : {y met : ℕ} {route : List ℕ} → has met y ≡ false → routeRow x y ≡ none → Walks x y met route broken
+  -- at the origin
+  arrived : {y met : ℕ} {route : List ℕ} (l : ℕ) → has met y ≡ false → routeRow x y ≡ root l → Walks x y met route (reached (y ∷ route))
+  -- by way of the predecessor
+  onward : {y met : ℕ} {route : List ℕ} {w : Walked} (d p l : ℕ) → has met y ≡ false → routeRow x y ≡ via d p l →
+      Walks x p (put met y) (y ∷ route) w → Walks x y met route w
+
+-- of the nodes below n, one more is met, and not all were
+module _ (n y met : ℕ) (new : has met y ≡ false) (below : y < n) where
+  pub met-more : count (has met) n < count (has (put met y)) n
+  met-more = count-more (has met) (has (put met y)) (λ i. has-kept met y i) y new (has-put-same met y) n below
+
+  pub met-room : count (has met) n < n
+  met-room = omega (arith, met-more, count-le (has (put met y)) n)
+
+module _ (x : Net) where
+  -- a row that leads on, or ends the walk, is a node's
+  via-node : (y d p l : ℕ) → routeRow x y ≡ via d p l → y < x .nodes
+  unfolding unrouted
+  via-node y d p l r = routed x y (rw r) .0
+
+  root-node : (y l : ℕ) → routeRow x y ≡ root l → (y < x .nodes) × (x .row y ≡ root l)
+  unfolding unrouted
+  root-node y l r = let q = routed x y (rw r) in (q .0, sym (q .1) ∙ r)
+
+  -- with room for every node not yet met, the walk that counts nodes is that walk
+  pub walk-walks : (k y met : ℕ) (route : List ℕ) → x .nodes ≤ count (has met) (x .nodes) + k → Walks x y met route (walk k x y met route)
+  walk-walks zero y met route h = go (bool-cases (has met y)) (routeRow x y) refl
+    where
+      go : (has met y ≡ true) ⊎ (has met y ≡ false) → (w : Row) → routeRow x y ≡ w → Walks x y met route (walk zero x y met route)
+      go (inl m) w r = rw (walk-spent x y met route) (again m)
+      go (inr m) none r = rw (walk-spent x y met route) (lost m r)
+      go (inr m) (root l) r = absurd (omega (arith, met-room (x .nodes) y met m (root-node y l r .0)))
+      go (inr m) (via d p l) r = absurd (omega (arith, met-room (x .nodes) y met m (via-node y d p l r)))
+  walk-walks (suc k) y met route h = go (bool-cases (has met y)) (routeRow x y) refl (λ p. walk-walks k p (put met y) (y ∷ route))
+    where
+      go : (has met y ≡ true) ⊎ (has met y ≡ false) → (w : Row) → routeRow x y ≡ w →
+          ((p : ℕ) → x .nodes ≤ count (has (put met y)) (x .nodes) + k →
+          Walks x p (put met y) (y ∷ route) (walk k x p (put met y) (y ∷ route))) → Walks x y met route (walk (suc k) x y met route)
+      go (inl m) w r next = rw (walk-again k x y met route m) (again m)
+      go (inr m) none r next = rw (walk-lost k x y met route m r) (lost m r)
+      go (inr m) (root l) r next = rw (walk-arrived k x y met route m l r) (arrived l m r)
+      go (inr m) (via d p l) r next =
+          rw (walk-onward k x y met route m d p l r)
+          (onward d p l m r (next p (omega (arith, met-more (x .nodes) y met m (via-node y d p l r)))))
+
+  -- and there is no other such walk
+  pub walks-walk : {y met : ℕ} {route : List ℕ} {w : Walked} → Walks x y met route w → (k : ℕ) →
+      x .nodes ≤ count (has met) (x .nodes) + k → walk k x y met route ≡ w
+  walks-walk {y} {met} {route} (again m) zero h = walk-spent x y met route
+  walks-walk {y} {met} {route} (lost m r) zero h = walk-spent x y met route
+  walks-walk {y} {met} (arrived l m r) zero h = absurd (omega (arith, met-room (x .nodes) y met m (root-node y l r .0)))
+  walks-walk {y} {met} (onward d p l m r t) zero h = absurd (omega (arith, met-room (x .nodes) y met m (via-node y d p l r)))
+  walks-walk {y} {met} {route} (again m) (suc k) h = walk-again k x y met route m
+  walks-walk {y} {met} {route} (lost m r) (suc k) h = walk-lost k x y met route m r
+  walks-walk {y} {met} {route} (arrived l m r) (suc k) h = walk-arrived k x y met route m l r
+  walks-walk {y} {met} {route} (onward d p l m r t) (suc k) h =
+      walk-onward k x y met route m d p l r ∙
+      walks-walk t k (omega (arith, met-more (x .nodes) y met m (via-node y d p l r)))
+
+  module _ (few : x .nodes ≤ maxNodes) where
+    -- the walk back is document 01's
+    pub walk-back : (y : ℕ) → Walks x y 0 [] (walkBack x y)
+    unfolding walkBack
+    walk-back y = walk-walks maxNodes y 0 [] (omega arith)
+
+    -- and no other
+    pub walk-only : (y : ℕ) (w : Walked) → Walks x y 0 [] w → walkBack x y ≡ w
+    unfolding walkBack
+    walk-only y w t = walks-walk t maxNodes (omega arith)
+
+    -- the bound on nodes is never what breaks a walk
+    pub walk-enough : (k y : ℕ) → walk (maxNodes + k) x y 0 [] ≡ walk maxNodes x y 0 []
+    walk-enough k y = walks-walk (walk-walks maxNodes y 0 [] (omega arith)) (maxNodes + k) (omega arith)
+
+-- ---- what a route is
+
+-- a route to y: it begins at a node with the origin's row, ends with y, and has at most n nodes, all below n
+pub record RouteTo (x : Net) (y : ℕ) (route : List ℕ) : Type 0 where
+  pub first : (o l : ℕ) × (rest : List ℕ) × (route ≡ o ∷ rest) × (x .row o ≡ root l)
+  pub last : (front : List ℕ) × (route ≡ front ++ y ∷ [])
+  pub short : length route ≤ x .nodes
+  pub below : (a : ℕ) → List·Memᴰ a route → a < x .nodes
+
+-- the nodes of a route with one node more
+cons-below : (n y : ℕ) (route : List ℕ) → y < n → ((a : ℕ) → List·Memᴰ a route → a < n) → (a : ℕ) → List·Memᴰ a (y ∷ route) → a < n
+cons-below n y route h b a i = ⊎-elim (λ e. omega arith) (λ j. b a j) (List·Memᴰ·cases-cons i)
+
+-- z is the node named, and y the one come to
+walks-to : (x : Net) (z : ℕ) {y met : ℕ} {route : List ℕ} {w : Walked} → Walks x y met route w → (whole : List ℕ) → w ≡ reached whole →
+    (front : List ℕ) × (y ∷ route ≡ front ++ z ∷ []) → length route ≤ count (has met) (x .nodes) →
+    ((a : ℕ) → List·Memᴰ a route → a < x .nodes) → RouteTo x z whole
+walks-to x z (again m) whole e f s b = let q : _≡_ {A = ℕ} 0 1 = cc in absurd (omega arith)
+walks-to x z (lost m r) whole e f s b = let q : _≡_ {A = ℕ} 0 1 = cc in absurd (omega arith)
+walks-to x z {y} {met} {route} (arrived l m r) whole e f s b =
+    let same : y ∷ route ≡ whole = cc in
+    let node = root-node x y l r in
+    subst (RouteTo x z) same
+    (record {
+      first = (y, l, route, refl, node .1);
+      last = f;
+      short = omega (arith, met-room (x .nodes) y met m (node .0));
+      below = cons-below (x .nodes) y route (node .0) b;
+    })
+walks-to x z {y} {met} {route} (onward d p l m r t) whole e f s b =
+    let node = via-node x y d p l r in
+    walks-to x z t whole e (p ∷ f .0, ap (λ (rest : List ℕ). p ∷ rest) (f .1)) (omega (arith, met-more (x .nodes) y met m node))
+    (cons-below (x .nodes) y route node b)
+
+-- a walk back that reaches the origin gives a route to the node named
+pub route-ends : (x : Net) (y : ℕ) (route : List ℕ) → x .nodes ≤ maxNodes → walkBack x y ≡ reached route → RouteTo x y route
+route-ends x y route few e =
+    walks-to x y (walk-back x few y) route e ([], refl) (omega arith) (λ a i. absurd (List·Memᴰ·not-nil i))

@@ -1,0 +1,174 @@
+-- Laws of the route call: what a row that is read says of the walk, the bytes stored, and each answer.
+-- Assumes nothing.
+use mathlib.Core.Path.{_≡_, refl, sym, ap, ap₂, subst, _∙_}
+use mathlib.Core.Bool.{true, false, cond}
+use mathlib.Core.Logic.{_≢_, ⊎-elim}
+use mathlib.Core.List.{List, _∷_, _++_}
+use Prim.Native.Nat.{ℕ, suc, _+_, _-_, _<_, _≤_}
+use native.Mathlib.Omega.{arith}
+use native.Mathlib.Nat.{zero-add}
+use native.Mathlib.Numerals.{add-one}
+use lib.Dec.{eqb}
+use lib.ListN.{length, set, take, drop, getD, length-drop, length-set}
+use lib.Seq.{take-all, take-length, paste-suc, length-paste, drop-length, drop-cons, drop-set-lt, getD-set-same}
+use borrow.Author.Tests.{lt-ltb, le-ltb, ne-eqb}
+use Rattle.ancestors.specs.Ancestors.{has, put}
+use Rattle.ancestors.proofs.Cases.{bool-cases}
+use Rattle.network.specs.Faults.{maxNodes, nodeFault}
+use Rattle.network.specs.Network.{none, root, via, Net}
+use Rattle.network.specs.Route.{routeRow, Walked, broken, reached, walk, walkBack, unrouted, routeNodes, walkNumber, routeNumber, routeOf}
+use Rattle.network.specs.Writing.{writing, Writes}
+use Rattle.network.proofs.FaultLaws.{node-says}
+use Rattle.network.proofs.Walking.{walk-again, walk-lost, walk-arrived, walk-onward, walk-spent}
+use Rattle.memory.specs.Answers.{RowAnswer, readRow}
+use Rattle.route.specs.Inner.{startNumber, walkOf, Laid}
+
+-- ---- a row that is read
+
+-- the number before the walk, of the row as it is read
+abbrev pub startOf : RowAnswer → ℕ
+startOf a = cond (eqb (a .number) 0) (cond (unrouted (a .row)) 8 0) 3
+
+module _ (x : Net) (y : ℕ) where
+  -- the walk reads the row that is read
+  pub row-read : routeRow x y ≡ readRow x y .row
+  unfolding readRow routeRow
+  row-read = ⊎-elim (λ f. rw f) (λ f. rw f) (bool-cases (nodeFault (x .nodes) y))
+
+  -- what has a row is a node
+  pub node-read : readRow x y .number ≡ 0 → y < x .nodes
+  unfolding readRow
+  node-read e =
+      ⊎-elim (λ f. absurd (let z : _≡_ {A = ℕ} 3 0 = rw f at e in omega arith)) (λ f. node-says (x .nodes) y f) (bool-cases (nodeFault (x .nodes) y))
+
+  -- the numbers before the walk are those of the row read
+  pub start-read : startNumber x y ≡ startOf (readRow x y)
+  unfolding readRow startNumber unrouted
+  start-read = ⊎-elim (λ f. rw f) (λ f. rw f) (bool-cases (nodeFault (x .nodes) y))
+
+-- ---- the walk, its route stored at the end of the bytes
+
+-- a byte stored before the route
+stored : (bytes : List ℕ) (at y : ℕ) → at < length bytes → drop at (set bytes at y) ≡ y ∷ drop (suc at) bytes
+stored bytes at y h =
+    drop-cons (set bytes at y) at 0 (subst (λ n. at < n) (sym (length-set bytes at y)) h)
+    ∙ ap₂ (λ (a : ℕ) (r : List ℕ). a ∷ r) (getD-set-same bytes at y 0 h) (drop-set-lt (suc at) bytes at y (omega arith))
+
+-- no node is stored yet
+pub start-walk : (x : Net) (y : ℕ) (bytes : List ℕ) → length bytes ≡ maxNodes → walkBack x y ≡ walk maxNodes x y 0 (drop maxNodes bytes)
+unfolding walkBack
+start-walk x y bytes size = ap (walk maxNodes x y 0) (sym (drop-length bytes) ∙ ap (λ k. drop k bytes) size)
+
+-- 0 nodes stand for a walk that does not reach the origin
+pub laid-broken : (w : Walked) (bytes : List ℕ) → w ≡ broken → Laid w bytes 0
+unfolding walkOf
+laid-broken w bytes e = record { walk = e; fits = omega arith }
+
+-- a step of the walk w, with room for `left` nodes
+module _ (w : Walked) (x : Net) (y met left : ℕ) (bytes : List ℕ) (inv : w ≡ walk left x y met (drop left bytes)) where
+  pub step-spent : left ≡ 0 → Laid w bytes 0
+  step-spent e = laid-broken w bytes (inv ∙ ap (λ k. walk k x y met (drop left bytes)) e ∙ walk-spent x y met _)
+
+  module _ (some : 0 < left) where
+    here : w ≡ walk (suc (left - 1)) x y met (drop (suc (left - 1)) bytes)
+    here = subst (λ k. w ≡ walk k x y met (drop k bytes)) (omega arith) inv
+
+    pub step-again : has met y ≡ true → Laid w bytes 0
+    step-again m = laid-broken w bytes (here ∙ walk-again (left - 1) x y met _ m)
+
+    module _ (new : has met y ≡ false) where
+      pub step-lost : routeRow x y ≡ none → Laid w bytes 0
+      step-lost r = laid-broken w bytes (here ∙ walk-lost (left - 1) x y met _ new r)
+
+      module _ (size : length bytes ≡ maxNodes) (fits : left ≤ maxNodes) where
+        pub step-arrived : (l : ℕ) → routeRow x y ≡ root l → Laid w (set bytes (left - 1) y) (maxNodes - (left - 1))
+        unfolding walkOf
+        step-arrived l r =
+            let at : maxNodes - (maxNodes - (left - 1)) ≡ left - 1 = omega arith in
+            record {
+              walk = here ∙ walk-arrived (left - 1) x y met _ new l r ∙
+                  rw (ne-eqb (maxNodes - (left - 1)) 0 (λ e. omega arith), at, stored bytes (left - 1) y (omega arith));
+              fits = omega arith;
+            }
+
+        pub step-onward : (d p l m : ℕ) → routeRow x y ≡ via d p l → m ≡ put met y
+            → w ≡ walk (left - 1) x p m (drop (left - 1) (set bytes (left - 1) y))
+        step-onward d p l m r e =
+            here ∙ walk-onward (left - 1) x y met _ new d p l r ∙
+            ap₂ (λ (n : ℕ) (s : List ℕ). walk (left - 1) x p n s) (sym e) (sym (stored bytes (left - 1) y (omega arith)))
+
+-- ---- bytes copied
+
+-- the output with i bytes copied to its front
+abbrev pub copied : List ℕ → List ℕ → ℕ → List ℕ
+copied bytes out i = take i bytes ++ drop i out
+
+module _ (bytes out : List ℕ) (room : length bytes ≤ length out) (i : ℕ) where
+  -- a byte more
+  pub copied-step : i < length bytes → set (copied bytes out i) i (getD bytes i 0) ≡ copied bytes out (i + 1)
+  copied-step h = rw add-one (simp zero-add at (paste-suc out 0 bytes i 0 (omega arith) h))
+
+  pub copied-length : i ≤ length bytes → length (copied bytes out i) ≡ length out
+  copied-length h = simp zero-add at (length-paste out 0 bytes i (omega arith) h)
+
+  -- every byte
+  pub copied-all : i ≡ length bytes → copied bytes out i ≡ bytes ++ drop (length bytes) out
+  copied-all e = rw (e, take-length)
+
+-- ---- the answers
+module _ (x : Net) (y : ℕ) (out : List ℕ) where
+  -- refused with the number k, nothing is written
+  refused-as : (k : ℕ) → routeNumber x y (length out) ≡ k → k ≢ 0 → Writes (routeOf x y out) (record { number = k; length = 0 }) out
+  unfolding routeOf writing
+  refused-as k e h = rw (e, ne-eqb k 0 h) (record { number = refl; length = refl; output = refl })
+
+  -- the numbers before the walk come first
+  number-node : nodeFault (x .nodes) y ≡ false →
+      routeNumber x y (length out) ≡ cond (eqb (startNumber x y) 0) (walkNumber (length out) (walkBack x y)) (startNumber x y)
+  unfolding routeNumber startNumber
+  number-node f =
+      ⊎-elim (λ (u : unrouted (x .row y) ≡ true). rw (f, u)) (λ (u : unrouted (x .row y) ≡ false). rw (f, u)) (bool-cases (unrouted (x .row y)))
+
+  number-first : routeNumber x y (length out) ≡ cond (eqb (startNumber x y) 0) (walkNumber (length out) (walkBack x y)) (startNumber x y)
+  unfolding routeNumber startNumber
+  number-first = ⊎-elim (λ f. rw f) (λ f. number-node f) (bool-cases (nodeFault (x .nodes) y))
+
+  pub answer-start : (k : ℕ) → k ≡ startNumber x y → k ≢ 0 → Writes (routeOf x y out) (record { number = k; length = 0 }) out
+  answer-start k e h = refused-as k (number-first ∙ rw (← e, ne-eqb k 0 h)) h
+
+  -- the walk left k nodes at the end of the bytes
+  module _ (first : startNumber x y ≡ 0) (bytes : List ℕ) (k : ℕ) (laid : Laid (walkBack x y) bytes k) where
+    -- then comes the number of the walk
+    number-walk : (w : Walked) → walkBack x y ≡ w → routeNumber x y (length out) ≡ walkNumber (length out) w
+    number-walk w e = number-first ∙ rw (first, e)
+
+    pub answer-nine : k ≡ 0 → Writes (routeOf x y out) (record { number = 9; length = 0 }) out
+    unfolding walkOf walkNumber
+    answer-nine z = refused-as 9 (number-walk broken (laid .walk ∙ rw z)) (λ e. omega arith)
+
+    module _ (some : k ≢ 0) (size : length bytes ≡ maxNodes) where
+      -- the route is what was stored
+      reaches : walkBack x y ≡ reached (drop (maxNodes - k) bytes)
+      unfolding walkOf
+      reaches = laid .walk ∙ rw (ne-eqb k 0 some)
+
+      route-length : length (drop (maxNodes - k) bytes) ≡ k
+      route-length = omega (arith, length-drop (maxNodes - k) bytes, laid .fits)
+
+      part-all : take (maxNodes - (maxNodes - k)) (drop (maxNodes - k) bytes) ≡ drop (maxNodes - k) bytes
+      part-all = take-all (maxNodes - (maxNodes - k)) (drop (maxNodes - k) bytes) (omega (arith, route-length, laid .fits))
+
+      pub answer-six : length out < k → Writes (routeOf x y out) (record { number = 6; length = 0 }) out
+      unfolding walkNumber
+      answer-six h = refused-as 6 (number-walk _ reaches ∙ rw (route-length, lt-ltb (length out) k h)) (λ e. omega arith)
+
+      -- the part of the bytes from the route's first node on
+      pub part-length : length (take (maxNodes - (maxNodes - k)) (drop (maxNodes - k) bytes)) ≡ k
+      part-length = rw part-all route-length
+
+      pub answer-route : k ≤ length out → (part exit : List ℕ) → part ≡ take (maxNodes - (maxNodes - k)) (drop (maxNodes - k) bytes)
+          → exit ≡ part ++ drop (length part) out → Writes (routeOf x y out) (record { number = 0; length = k }) exit
+      unfolding walkNumber routeOf writing routeNodes
+      answer-route h part exit p e =
+          let n : routeNumber x y (length out) ≡ 0 = number-walk _ reaches ∙ rw (route-length, le-ltb (length out) k h) in
+          rw (n, reaches) (record { number = refl; length = sym route-length; output = rw (p, part-all) at e })

@@ -1,0 +1,188 @@
+-- `route::walk_back` meets its contract. The loop's invariant: the walk from the present node on, with room for the nodes left, is the whole walk.
+-- Assumes nothing.
+use borrow.Author.Needs.{needs}
+use borrow.Author.Tests.{lt-ltb}
+use native.Mathlib.Omega.{arith}
+use mathlib.Core.Path.{_≡_, sym, ap, _∙_}
+use Prim.Native.Nat.{_-_, _<_, _≤_}
+use lib.ListN.{length, drop, length-set}
+use denote.Ref.{now}
+use Rattle.ancestors.specs.Ancestors.{put}
+use Rattle.network.specs.Faults.{maxNodes}
+use Rattle.network.specs.Route.{walk, walkBack}
+use Rattle.memory.specs.Layout.{view}
+use Rattle.memory.specs.Answers.{rowMeans}
+use Rattle.memory.proofs.Store.{few}
+use Rattle.route.proofs.Answering.{row-read, node-read, start-walk, step-spent, step-again, step-lost, step-arrived, step-onward}
+use Rattle.route.proofs.walk_back.Statement.{statement}
+use Rattle.route.proofs.walk_back.Tie as tie
+
+abbrev Inv-loop : tie.InvT-loop
+Inv-loop net node bytes₀ met₀ y₀ left₀ bytes met y left =
+    (walkBack (view net) node ≡ walk left (view net) y met (drop left bytes)) × (left ≤ maxNodes) × (length bytes ≡ maxNodes)
+
+abbrev μ-loop : tie.MeasureT-loop
+μ-loop net node bytes₀ met₀ y₀ left₀ bytes met y left = left
+
+loop-holds : tie.Need-loop-holds Inv-loop μ-loop
+loop-holds c =
+    let a = c .before .args in
+    let p = c .before .pre in
+    (start-walk (view (now (a .net))) (a .node) (now (a .bytes)) p, search needs, p)
+
+listed-requires : tie.Need-listed-requires Inv-loop μ-loop
+listed-requires c κs = search needs
+
+same-length : tie.Need-same-length Inv-loop μ-loop
+same-length c = omega arith
+
+returns : tie.Need-returns Inv-loop μ-loop
+returns c =
+    let l = c .before .before .before .loop in
+    step-again _ _ (l .y) (l .met) (l .left) (l .bytes) (l .inv .0) (search needs) (sym (c .before .listed .ensures) ∙ c .if1 .taken)
+
+row-requires : tie.Need-row-requires Inv-loop μ-loop
+row-requires c κs = search needs
+
+enum-told : tie.Need-enum-told Inv-loop μ-loop
+enum-told c = search needs
+
+same-length-2 : tie.Need-same-length-2 Inv-loop μ-loop
+same-length-2 c = omega arith
+
+returns-2 : tie.Need-returns-2 Inv-loop μ-loop
+unfolding rowMeans
+returns-2 c =
+    let l = c .before .before .before .before .before .before .loop in
+    let e = ap rowMeans (sym (c .enum-told .given .1)) ∙ c .before .before .row .ensures in
+    let r = row-read _ (l .y) ∙ ap (λ a. a .row) (sym e) in
+    let new = sym (c .before .before .before .before .listed .ensures) ∙ c .before .before .before .if1 .left in
+    step-lost _ _ (l .y) (l .met) (l .left) (l .bytes) (l .inv .0) (search needs) new r
+
+enum-told-2 : tie.Need-enum-told-2 Inv-loop μ-loop
+enum-told-2 c = search needs
+
+same-length-3 : tie.Need-same-length-3 Inv-loop μ-loop
+same-length-3 c = omega arith
+
+returns-3 : tie.Need-returns-3 Inv-loop μ-loop
+unfolding rowMeans
+returns-3 c =
+    let l = c .before .before .before .before .before .before .loop in
+    let e = ap rowMeans (sym (c .enum-told2 .given .1)) ∙ c .before .before .row .ensures in
+    let r = row-read _ (l .y) ∙ ap (λ a. a .row) (sym e) in
+    let new = sym (c .before .before .before .before .listed .ensures) ∙ c .before .before .before .if1 .left in
+    step-lost _ _ (l .y) (l .met) (l .left) (l .bytes) (l .inv .0) (search needs) new r
+
+enum-told-3 : tie.Need-enum-told-3 Inv-loop μ-loop
+enum-told-3 c = search needs
+
+sub-left : tie.Need-sub-left Inv-loop μ-loop
+sub-left c = omega arith
+
+cast-bytes : tie.Need-cast-bytes Inv-loop μ-loop
+unfolding rowMeans
+cast-bytes c =
+    let l = c .before .before .before .before .before .before .loop in
+    let e = ap rowMeans (sym (c .enum-told3 .given .1)) ∙ c .before .before .row .ensures in
+    let node = node-read _ (l .y) (ap (λ a. a .number) (sym e)) in
+    omega (arith, few (now (c .before .before .before .before .before .before .before .before .args .net)), node)
+
+slice-write-bytes : tie.Need-slice-write-bytes Inv-loop μ-loop
+slice-write-bytes c = omega arith
+
+sub-result : tie.Need-sub-result Inv-loop μ-loop
+sub-result c = omega arith
+
+same-length-4 : tie.Need-same-length-4 Inv-loop μ-loop
+same-length-4 c =
+    simp length-set (omega arith)
+
+returns-4 : tie.Need-returns-4 Inv-loop μ-loop
+unfolding rowMeans
+returns-4 c =
+    let l = c .before .before .before .before .before .before .loop in
+    let e = ap rowMeans (sym (c .enum-told3 .given .1)) ∙ c .before .before .row .ensures in
+    let r = row-read _ (l .y) ∙ ap (λ a. a .row) (sym e) in
+    let new = sym (c .before .before .before .before .listed .ensures) ∙ c .before .before .before .if1 .left in
+    step-arrived _ _ (l .y) (l .met) (l .left) (l .bytes) (l .inv .0) (search needs) new (l .inv .2) (l .inv .1) _ r
+
+enum-known-row : tie.Need-enum-known-row Inv-loop μ-loop
+enum-known-row c = search needs
+
+sub-left-2 : tie.Need-sub-left-2 Inv-loop μ-loop
+sub-left-2 c = omega arith
+
+cast-bytes-2 : tie.Need-cast-bytes-2 Inv-loop μ-loop
+unfolding rowMeans
+cast-bytes-2 c =
+    let l = c .before .before .before .before .before .before .before .loop in
+    let e = ap rowMeans (sym (c .before .row2 .given .1)) ∙ c .before .before .before .row .ensures in
+    let node = node-read _ (l .y) (ap (λ a. a .number) (sym e)) in
+    omega (arith, few (now (c .before .before .before .before .before .before .before .before .before .args .net)), node)
+
+slice-write-bytes-2 : tie.Need-slice-write-bytes-2 Inv-loop μ-loop
+slice-write-bytes-2 c = omega arith
+
+joined-requires : tie.Need-joined-requires Inv-loop μ-loop
+joined-requires c κs = search needs
+
+loop-less : tie.Need-loop-less Inv-loop μ-loop
+loop-less c = omega arith
+
+loop-again : tie.Need-loop-again Inv-loop μ-loop
+unfolding rowMeans
+loop-again c =
+    let l = c .before .before .before .before .before .before .before .before .loop in
+    let e = ap rowMeans (sym (c .before .before .row2 .given .1)) ∙ c .before .before .before .before .row .ensures in
+    let r = row-read _ (l .y) ∙ ap (λ a. a .row) (sym e) in
+    let new = sym (c .before .before .before .before .before .before .listed .ensures) ∙ c .before .before .before .before .before .if1 .left in
+    let node = node-read _ (l .y) (ap (λ a. a .number) (sym e)) in
+    let small : l .y < 32 = omega (arith, few (now (c .before .before .before .before .before .before .before .before .before .before .args .net)), node) in
+    let j : c .joined .result ≡ put (l .met) (l .y) = c .joined .ensures ∙ rw (lt-ltb (l .y) 32 small) in (
+      step-onward _ _ (l .y) (l .met) (l .left) (l .bytes) (l .inv .0) (search needs) new (l .inv .2) (l .inv .1) _ _ _ _ r j,
+      omega arith,
+      simp length-set (l .inv .2),
+    )
+
+same-length-5 : tie.Need-same-length-5 Inv-loop μ-loop
+same-length-5 c = omega arith
+
+returns-5 : tie.Need-returns-5 Inv-loop μ-loop
+returns-5 c =
+    let l = c .before .loop in
+    step-spent _ _ (l .y) (l .met) (l .left) (l .bytes) (l .inv .0) (omega arith)
+
+pub walk-back-spec : {M : Type 1} → statement M
+walk-back-spec =
+    tie.close
+    (tie.spec
+    Inv-loop
+    μ-loop
+    loop-holds
+    listed-requires
+    same-length
+    returns
+    row-requires
+    enum-told
+    same-length-2
+    returns-2
+    enum-told-2
+    same-length-3
+    returns-3
+    enum-told-3
+    sub-left
+    cast-bytes
+    slice-write-bytes
+    sub-result
+    same-length-4
+    returns-4
+    enum-known-row
+    sub-left-2
+    cast-bytes-2
+    slice-write-bytes-2
+    joined-requires
+    loop-less
+    loop-again
+    same-length-5
+    returns-5)
