@@ -9,3 +9,5 @@ pub mod ImageSteps
 pub mod Acceptance
 pub mod Opened
 pub mod ImageBytes
+pub mod Reading
+pub mod Grading

@@ -1,0 +1,92 @@
+-- What opening answers: the first record decides on the network, and the others lead to a refusal or to the end.
+-- Assumes nothing.
+use mathlib.Core.Path.{_≡_, refl, sym, ap, subst, _∙_}
+use mathlib.Core.Logic.{_≢_}
+use mathlib.Core.List.{List}
+use Prim.Native.Nat.{ℕ, _<_, _≤_}
+use native.Mathlib.Omega.{arith}
+use lib.ListN.{length, drop}
+use borrow.Author.Tests.{eq-eqb, ne-eqb}
+use Rattle.network.specs.Network.{freshNet, freshNumber, freshOf}
+use Rattle.network.proofs.Effects.{outcome-number, refused-net, accepted-net}
+use Rattle.network.proofs.FaultLaws.{size-free}
+use Rattle.memory.specs.Layout.{view}
+use Rattle.memory.specs.Answers.{Starts}
+use Rattle.records.specs.Records.{recordOf}
+use Rattle.records.specs.Opening.{Opening, refusedOpening, readRecords, started, openOf}
+use Rattle.records.specs.declared.Event.{Event}
+use Rattle.records.specs.declared.Event.the-variants.{Header, Refusal}
+use Rattle.records.specs.declared.Record.{Record}
+use Rattle.records.specs.declared.Section.the-variants.{Start}
+use Rattle.records.proofs.Reading.{length-within, length-some}
+use Rattle.opening.specs.declared.Opened.{Opened}
+use Rattle.opening.specs.declared.Finish.{Finish}
+use Rattle.opening.specs.declared.Finish.the-variants.{Refused, Accepted}
+use Rattle.opening.specs.Answers.{Opens, finishMeans, headed}
+
+-- the same opening
+pub opens-same : (o p : Opening) (r : Opened) → o ≡ p → Opens o r → Opens p r
+opens-same o p r e h = subst (λ q. Opens q r) e h
+
+-- the fresh network of one node
+pub fresh-one : (k : ℕ) (words : List ℕ) → Starts (freshOf 1 0) k words → view words ≡ freshNet 1 0
+unfolding freshOf freshNumber
+fresh-one k words s = s .net ∙ accepted-net _ (freshNet 1 0) (freshNet 1 0) (rw (size-free 1 0 (omega arith) (omega arith) (omega arith)))
+
+-- ---- the first record, with the number k and the words of the fresh call on what it gives
+
+module _ (bs : List ℕ) (start n o k : ℕ) (words : List ℕ) (s : Starts (freshOf n o) k words) where
+  number-is : k ≡ freshNumber n o
+  unfolding freshOf
+  number-is = s .number ∙ outcome-number (freshNumber n o) (freshNet n o) (freshNet 1 0)
+
+  pub fresh-refused : k ≢ 0 → Opens (headed bs start n o) (record { number = k; place = 0; used = 0; net = words })
+  unfolding freshOf headed
+  fresh-refused h =
+      let f : freshNumber n o ≢ 0 = λ e. h (number-is ∙ e) in
+      opens-same (refusedOpening (freshNumber n o) 0) (headed bs start n o) _ (rw (ne-eqb (freshNumber n o) 0 f))
+      (record { number = number-is; place = refl; used = refl; net = s .net ∙ refused-net (freshNumber n o) (freshNet n o) (freshNet 1 0) f })
+
+  pub fresh-read : k ≡ 0 → readRecords (length bs) (view words) 0 start (drop start bs) ≡ headed bs start n o
+  unfolding freshOf headed
+  fresh-read h =
+      let f : freshNumber n o ≡ 0 = sym number-is ∙ h in
+      ap (λ x. readRecords (length bs) x 0 start (drop start bs)) (s .net ∙ accepted-net (freshNumber n o) (freshNet n o) (freshNet 1 0) f)
+      ∙ rw (eq-eqb (freshNumber n o) 0 f)
+
+-- ---- the others
+
+module _ (o : Opening) (f : Finish) (words : List ℕ) (is : finishMeans f (view words) ≡ o) where
+  pub read-refused : (e p : ℕ) (r : Opened) → f ≡ Refused e p → Opens (refusedOpening e p) r → Opens o r
+  unfolding finishMeans
+  read-refused e p r h = opens-same (refusedOpening e p) o r (ap (λ g. finishMeans g (view words)) (sym h) ∙ is)
+
+  pub read-accepted : (u : ℕ) → f ≡ Accepted u → Opens o (record { number = 0; place = 0; used = u; net = words })
+  unfolding finishMeans
+  read-accepted u h =
+      opens-same (finishMeans (Accepted u) (view words)) o _ (ap (λ g. finishMeans g (view words)) (sym h) ∙ is)
+      (record { number = refl; place = refl; used = refl; net = refl })
+
+-- ---- the whole, by the event of the first record c
+
+module _ (bs : List ℕ) (c : Record) (is : c ≡ recordOf Start 0 (drop 0 bs)) (e : Event) (h : c .event ≡ e) where
+  pub opening-of : (o : Opening) (r : Opened) → o ≡ started bs c e → Opens o r → Opens (openOf bs) r
+  unfolding openOf
+  opening-of o r q =
+      opens-same o (openOf bs) r (q ∙ ap (started bs c) (sym h) ∙ ap (λ (d : Record). started bs d (d .event)) is)
+
+-- a header lies within the bytes
+pub header-within : (bs : List ℕ) (c : Record) → c ≡ recordOf Start 0 (drop 0 bs) → (n o : ℕ) → c .event ≡ Header n o → (0 < c .length) × (c .length ≤ length bs)
+header-within bs c is n o h =
+    let l = ap (λ (d : Record). d .length) is in (
+      omega (arith, l, length-some Start 0 (drop 0 bs) (λ e p q. clash e p (ap (λ (d : Record). d .event) is ∙ q))),
+      omega (arith, l, length-within Start 0 (drop 0 bs)),
+    )
+  where
+    clash : (e p : ℕ) → c .event ≡ Refusal e p → ⊥
+    clash e p q = let z : _≡_ {A = ℕ} 0 1 = cc in omega arith
+
+-- what follows a header
+pub started-header : (bs : List ℕ) (c : Record) (n o : ℕ) → headed bs (c .length) n o ≡ started bs c (Header n o)
+unfolding headed started
+started-header bs c n o = refl

@@ -1,0 +1,96 @@
+-- `opening::read_records` meets its contract. The loop's invariant: reading on from here gives the whole.
+-- Assumes nothing.
+use borrow.Author.Needs.{needs}
+use native.Mathlib.Omega.{arith}
+use Prim.Native.Nat.{_-_}
+use lib.ListN.{length, drop}
+use denote.Ref.{now}
+use Rattle.memory.specs.Layout.{view}
+use Rattle.records.specs.Opening.{readRecords}
+use Rattle.opening.proofs.Loop.{Going, begin, at-stop, at-end, at-next}
+use Rattle.opening.proofs.read_records.Statement.{statement}
+use Rattle.opening.proofs.read_records.Tie as tie
+
+abbrev Inv-loop : tie.InvT-loop
+Inv-loop net₀ input start next₀ at₀ net next at = Going (readRecords (length input) (view net₀) 0 start (drop start input)) input (view net) next at
+
+abbrev μ-loop : tie.MeasureT-loop
+μ-loop net₀ input start next₀ at₀ net next at = length input - at
+
+loop-holds : tie.Need-loop-holds Inv-loop μ-loop
+loop-holds c =
+    let a = c .before .args in
+    begin (now (a .input)) (view (now (a .net))) (a .start) (c .before .pre .0) (c .before .pre .1)
+
+read-record-requires : tie.Need-read-record-requires Inv-loop μ-loop
+read-record-requires c κs = search needs
+
+place-event-requires : tie.Need-place-event-requires Inv-loop μ-loop
+place-event-requires c κs = search needs
+
+enum-known-step : tie.Need-enum-known-step Inv-loop μ-loop
+enum-known-step c = search needs
+
+returns : tie.Need-returns Inv-loop μ-loop
+returns c =
+    let l = c .before .before .before .before .before .before .loop in
+    let d = c .before .before .before .before .before .read-record in
+    let p = c .before .before .before .place-event in
+    at-stop _ _ _ _ _ (l .inv) _ (d .ensures) _ _ (p .ensures) _ (c .before .step .given .1)
+
+enum-told : tie.Need-enum-told Inv-loop μ-loop
+enum-told c = search needs
+
+add-t14 : tie.Need-add-t14 Inv-loop μ-loop
+add-t14 c = omega (arith, c .before .before .before .before .before .loop .inv .within)
+
+returns-2 : tie.Need-returns-2 Inv-loop μ-loop
+returns-2 c =
+    let l = c .before .before .before .before .before .loop in
+    let d = c .before .before .before .before .read-record in
+    let p = c .before .before .place-event in
+    at-end _ _ _ _ _ (l .inv) _ (d .ensures) _ _ (p .ensures) (c .enum-told .given .1)
+
+enum-known-step-2 : tie.Need-enum-known-step-2 Inv-loop μ-loop
+enum-known-step-2 c = search needs
+
+add-at : tie.Need-add-at Inv-loop μ-loop
+add-at c =
+    let l = c .before .before .before .before .before .before .loop in
+    let d = c .before .before .before .before .before .read-record in
+    let p = c .before .before .before .place-event in
+    omega (arith, at-next _ _ _ _ _ (l .inv) _ (d .ensures) _ _ (p .ensures) _ (c .before .step2 .given .1) .2)
+
+loop-less : tie.Need-loop-less Inv-loop μ-loop
+loop-less c =
+    let l = c .before .before .before .before .before .before .loop in
+    let d = c .before .before .before .before .before .read-record in
+    let p = c .before .before .before .place-event in
+    let m = at-next _ _ _ _ _ (l .inv) _ (d .ensures) _ _ (p .ensures) _ (c .before .step2 .given .1) in
+    omega (arith, m .1, m .2)
+
+loop-again : tie.Need-loop-again Inv-loop μ-loop
+loop-again c =
+    let l = c .before .before .before .before .before .before .loop in
+    let d = c .before .before .before .before .before .read-record in
+    let p = c .before .before .before .place-event in
+    at-next _ _ _ _ _ (l .inv) _ (d .ensures) _ _ (p .ensures) _ (c .before .step2 .given .1) .0
+
+pub read-records-spec : {M : Type 1} → statement M
+read-records-spec =
+    tie.close
+    (tie.spec
+    Inv-loop
+    μ-loop
+    loop-holds
+    read-record-requires
+    place-event-requires
+    enum-known-step
+    returns
+    enum-told
+    add-t14
+    returns-2
+    enum-known-step-2
+    add-at
+    loop-less
+    loop-again)

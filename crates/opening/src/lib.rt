@@ -1,0 +1,274 @@
+// Opening an image: its records are read one after another and placed on a fresh network.
+//
+// Contracts go through `memory`'s `view`. No public function has a precondition; the private ones ask for small nodes
+// and ranks and for a start within the input.
+ghost use mathlib.Core.Path.{_≡_};
+ghost use Prim.Native.Nat.{_<_, _≤_};
+ghost use lib.ListN.{length, drop};
+ghost use Rattle.memory.specs.Layout.{view};
+ghost use Rattle.records.specs.Opening.{arcRank, refusedOpening, readRecords, openOf};
+ghost use Rattle.records.specs.declared.ArcChange.the-variants.{Set};
+ghost use Rattle.records.specs.declared.Event.the-variants.{Change, Row, Report};
+ghost use Rattle.opening.specs.Answers.{nextOf, Places, finishMeans, headed, Opens};
+use memory::Network;
+use records::ArcChange;
+use records::Event;
+use records::Section;
+
+// What opening an image answers: a number, 0 where it is accepted, the place of a refusal, the bytes used, and the network.
+pub struct Opened {
+    pub number: u8,
+    pub place: usize,
+    pub used: usize,
+    pub net: Network,
+}
+
+// What a record of an image leads to, beside the network that is lent.
+enum Next {
+    // The number of the refusal.
+    Stopped(u8),
+    Finished,
+    // The ranks from `next` on are above the record's.
+    Onward { next: usize },
+}
+
+// What the records after the first lead to, beside the network that is lent.
+enum Finish {
+    Refused { number: u8, place: usize },
+    Accepted { used: usize },
+}
+
+// ---- placing
+
+// The rank of a pair among pairs.
+fn pair_rank(sender: u32, receiver: u32) -> usize
+    requires { ⌜ sender < 32 ⌝ }
+    requires { ⌜ receiver < 32 ⌝ }
+    ensures { λ r. ⌜ (r ≡ arcRank sender receiver) × (r < 1024) ⌝ }
+{
+    sender as usize * 32 + receiver as usize
+}
+
+// What the number of a record of this rank leads to.
+fn judge(number: u8, rank: usize) -> Next
+    requires { ⌜ rank < 2080 ⌝ }
+    ensures { λ r. ⌜ r ≡ nextOf number rank ⌝ }
+{
+    if number == 0 {
+        return Next::Onward { next: rank + 1 };
+    }
+    Next::Stopped(number)
+}
+
+// Sets an arc of the image: 3 for the pair or the cost, then 4 for the order.
+fn place_arc(net: &mut Network, next: usize, sender: u32, receiver: u32, cost: u32) -> Next
+    ensures { λ r. ⌜ Places (view (now (net .entry))) next (Change (Set sender receiver cost)) r (view (now (net .exit))) ⌝ }
+{
+    if network::pair_fault(memory::nodes(net), sender, receiver) {
+        return Next::Stopped(3);
+    }
+    if network::MAX_COST < cost {
+        return Next::Stopped(3);
+    }
+    let rank = pair_rank(sender, receiver);
+    if rank < next {
+        return Next::Stopped(4);
+    }
+    judge(memory::change(net, sender, receiver, cost), rank)
+}
+
+// Sets a row of the image: 3, 4, then 5 for its form.
+fn place_row(
+    net: &mut Network,
+    next: usize,
+    node: u32,
+    label: u32,
+    predecessor: u32,
+    list: u32,
+) -> Next
+    ensures { λ r. ⌜ Places (view (now (net .entry))) next (Row node label predecessor list) r (view (now (net .exit))) ⌝ }
+{
+    if memory::nodes(net) <= node {
+        return Next::Stopped(3);
+    }
+    let rank = 1024 + node as usize;
+    if rank < next {
+        return Next::Stopped(4);
+    }
+    judge(memory::place_row(net, node, label, predecessor, list), rank)
+}
+
+// Sets a held report of the image: 3, 4, then 5 for its form.
+fn place_report(
+    net: &mut Network,
+    next: usize,
+    sender: u32,
+    receiver: u32,
+    label: u32,
+    list: u32,
+) -> Next
+    ensures { λ r. ⌜ Places (view (now (net .entry))) next (Report sender receiver label list) r (view (now (net .exit))) ⌝ }
+{
+    if network::pair_fault(memory::nodes(net), sender, receiver) {
+        return Next::Stopped(3);
+    }
+    let rank = 1056 + pair_rank(sender, receiver);
+    if rank < next {
+        return Next::Stopped(4);
+    }
+    judge(
+        memory::place_report(net, sender, receiver, label, list),
+        rank,
+    )
+}
+
+// Places a change; in an image cost 0 is refused as 3.
+fn place_change(net: &mut Network, next: usize, change: ArcChange) -> Next
+    ensures { λ r. ⌜ Places (view (now (net .entry))) next (Change change) r (view (now (net .exit))) ⌝ }
+{
+    match change {
+        ArcChange::Set {
+            sender,
+            receiver,
+            cost,
+        } => place_arc(net, next, sender, receiver, cost),
+        ArcChange::Removed {
+            sender: _,
+            receiver: _,
+        } => Next::Stopped(3),
+    }
+}
+
+// Places a record of an image on the network.
+fn place_event(net: &mut Network, next: usize, event: Event) -> Next
+    ensures { λ r. ⌜ Places (view (now (net .entry))) next event r (view (now (net .exit))) ⌝ }
+{
+    match event {
+        Event::End => Next::Finished,
+        Event::Header {
+            nodes: _,
+            origin: _,
+        } => Next::Stopped(2),
+        Event::Change(change) => place_change(net, next, change),
+        Event::Row {
+            node,
+            label,
+            predecessor,
+            list,
+        } => place_row(net, next, node, label, predecessor, list),
+        Event::Report {
+            sender,
+            receiver,
+            label,
+            list,
+        } => place_report(net, next, sender, receiver, label, list),
+        Event::Round => Next::Stopped(2),
+        Event::FullRound => Next::Stopped(2),
+        Event::Refusal { number, place: _ } => Next::Stopped(number),
+    }
+}
+
+// ---- opening
+
+// Reads the records from `start` on and places each, up to the end of the image.
+fn read_records(net: &mut Network, input: &[u8], start: usize) -> Finish
+    requires { ⌜ 0 < start ⌝ }
+    requires { ⌜ start ≤ length (now input) ⌝ }
+    ensures { λ r. ⌜ finishMeans r (view (now (net .exit))) ≡ readRecords (length (now (input .entry))) (view (now (net .entry))) 0 start (drop start (now (input .entry))) ⌝ }
+{
+    let mut next = 0usize;
+    let mut at = start;
+    loop {
+        let record = reading::read_record(input, at, Section::Image);
+        let event = record.event;
+        let length = record.length;
+        let step = place_event(net, next, event);
+        match step {
+            Next::Stopped(number) => {
+                return Finish::Refused {
+                    number: number,
+                    place: at,
+                };
+            }
+            Next::Finished => {
+                return Finish::Accepted { used: at + 1 };
+            }
+            Next::Onward { next: above } => {
+                next = above;
+                at = at + length;
+            }
+        }
+    }
+}
+
+// Refused: the fresh network of one node, and 0 bytes used.
+fn refuse(number: u8, place: usize) -> Opened
+    ensures { λ r. ⌜ Opens (refusedOpening number place) r ⌝ }
+{
+    let made = memory::fresh(1, 0);
+    let net = made.net;
+    Opened {
+        number: number,
+        place: place,
+        used: 0,
+        net: net,
+    }
+}
+
+// Opens an image whose first record ends at `start` and gives n and origin.
+fn open_records(input: &[u8], start: usize, nodes: u32, origin: u32) -> Opened
+    requires { ⌜ 0 < start ⌝ }
+    requires { ⌜ start ≤ length (now input) ⌝ }
+    ensures { λ r. ⌜ Opens (headed (now (input .entry)) start nodes origin) r ⌝ }
+{
+    let made = memory::fresh(nodes, origin);
+    let fault = made.number;
+    let mut net = made.net;
+    if fault != 0 {
+        return Opened {
+            number: fault,
+            place: 0,
+            used: 0,
+            net: net,
+        };
+    }
+    let end = read_records(&mut net, input, start);
+    match end {
+        Finish::Refused { number, place } => refuse(number, place),
+        Finish::Accepted { used } => Opened {
+            number: 0,
+            place: 0,
+            used: used,
+            net: net,
+        },
+    }
+}
+
+// Opens an image: the network and the bytes used; or number and place, the fresh network of one node and 0 used.
+pub fn open_image(input: &[u8]) -> Opened
+    ensures { λ r. ⌜ Opens (openOf (now (input .entry))) r ⌝ }
+{
+    let first = reading::read_record(input, 0, Section::Start);
+    let event = first.event;
+    let start = first.length;
+    match event {
+        Event::Header { nodes, origin } => open_records(input, start, nodes, origin),
+        Event::Refusal { number, place } => refuse(number, place),
+        Event::End => refuse(2, 0),
+        Event::Change(_) => refuse(2, 0),
+        Event::Row {
+            node: _,
+            label: _,
+            predecessor: _,
+            list: _,
+        } => refuse(2, 0),
+        Event::Report {
+            sender: _,
+            receiver: _,
+            label: _,
+            list: _,
+        } => refuse(2, 0),
+        Event::Round => refuse(2, 0),
+        Event::FullRound => refuse(2, 0),
+    }
+}

@@ -1,0 +1,24 @@
+-- `reading::arc_body` meets its contract.
+-- Assumes nothing.
+use borrow.Author.Needs.{needs}
+use Rattle.reading.proofs.arc_body.Statement.{statement}
+use Rattle.reading.proofs.arc_body.Tie as tie
+
+get8-requires : tie.Need-get8-requires
+get8-requires c κs = search needs
+
+get8-requires-2 : tie.Need-get8-requires-2
+get8-requires-2 c κs = search needs
+
+get16-requires : tie.Need-get16-requires
+get16-requires c κs = search needs
+
+change-to-requires : tie.Need-change-to-requires
+change-to-requires c κs = search needs
+
+returns : tie.Need-returns
+returns c = cc
+
+pub arc-body-spec : {M : Type 1} → statement M
+arc-body-spec =
+    tie.close (tie.spec get8-requires get8-requires-2 get16-requires change-to-requires returns)

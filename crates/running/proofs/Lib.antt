@@ -1,0 +1,5 @@
+pub mod Marks
+pub mod Events
+pub mod Lengths
+pub mod Loop
+pub mod Whole

@@ -1,0 +1,95 @@
+-- `running::run_events` meets its contract. The loop's invariant: the rest of the events gives the whole.
+-- Assumes nothing.
+use borrow.Author.Needs.{needs}
+use native.Mathlib.Omega.{arith}
+use Prim.Native.Nat.{_-_}
+use lib.ListN.{length}
+use denote.Ref.{now}
+use Rattle.memory.specs.Layout.{view}
+use Rattle.running.specs.Inner.{eventsFrom}
+use Rattle.running.proofs.Loop.{Rest, begin, round-at, at-end, at-stop, at-next}
+use Rattle.running.proofs.run_events.Statement.{statement}
+use Rattle.running.proofs.run_events.Tie as tie
+
+abbrev Inv-loop : tie.InvT-loop
+Inv-loop net₀ input start at₀ rounds₀ net at rounds = Rest input (eventsFrom input (view net₀) start) (view net) rounds at
+
+abbrev μ-loop : tie.MeasureT-loop
+μ-loop net₀ input start at₀ rounds₀ net at rounds = length input - at
+
+loop-holds : tie.Need-loop-holds Inv-loop μ-loop
+loop-holds c =
+    let a = c .before .args in begin (now (a .input)) (view (now (a .net))) (a .start) (c .before .pre)
+
+read-record-requires : tie.Need-read-record-requires Inv-loop μ-loop
+read-record-requires c κs = search needs
+
+do-event-requires : tie.Need-do-event-requires Inv-loop μ-loop
+do-event-requires c κs =
+    let a = c .before .before .before .before .before .args in
+    let r = c .before .read-record in round-at (now (a .input)) (c .before .before .before .loop .at) (r .result) (r .ensures)
+
+returns : tie.Need-returns Inv-loop μ-loop
+returns c =
+    let a = c .before .before .before .before .before .before .before .before .args in
+    let l = c .before .before .before .before .before .before .loop in
+    let r = c .before .before .before .before .read-record in
+    let d = c .before .before .do-event in
+    at-stop (l .inv) (omega arith) (r .ensures) (d .ensures) (c .if1 .taken)
+
+add-rounds : tie.Need-add-rounds Inv-loop μ-loop
+add-rounds c =
+    let a = c .before .before .before .before .before .before .before .before .before .args in
+    let l = c .before .before .before .before .before .before .before .loop in
+    let r = c .before .before .before .before .before .read-record in
+    let d = c .before .before .before .do-event in
+    let m = at-next (l .inv) (omega arith) (r .ensures) (d .ensures) (c .before .if1 .left) in
+    omega (arith, m .0 .few, m .2)
+
+add-at : tie.Need-add-at Inv-loop μ-loop
+add-at c =
+    let a = c .before .before .before .before .before .before .before .before .before .before .args in
+    let l = c .before .before .before .before .before .before .before .before .loop in
+    let r = c .before .before .before .before .before .before .read-record in
+    let d = c .before .before .before .before .do-event in
+    let m = at-next (l .inv) (omega arith) (r .ensures) (d .ensures) (c .before .before .if1 .left) in
+    omega (arith, m .2, c .before .before .before .before .before .before .before .before .before .before .good .1 .0 .0)
+
+loop-less : tie.Need-loop-less Inv-loop μ-loop
+loop-less c =
+    let a = c .before .before .before .before .before .before .before .before .before .before .args in
+    let l = c .before .before .before .before .before .before .before .before .loop in
+    let r = c .before .before .before .before .before .before .read-record in
+    let d = c .before .before .before .before .do-event in
+    let m = at-next (l .inv) (omega arith) (r .ensures) (d .ensures) (c .before .before .if1 .left) in
+    omega (arith, m .1, m .2)
+
+loop-again : tie.Need-loop-again Inv-loop μ-loop
+loop-again c =
+    let a = c .before .before .before .before .before .before .before .before .before .before .args in
+    let l = c .before .before .before .before .before .before .before .before .loop in
+    let r = c .before .before .before .before .before .before .read-record in
+    let d = c .before .before .before .before .do-event in
+    at-next (l .inv) (omega arith) (r .ensures) (d .ensures) (c .before .before .if1 .left) .0
+
+returns-2 : tie.Need-returns-2 Inv-loop μ-loop
+returns-2 c =
+    let a = c .before .before .before .args in
+    let l = c .before .loop in
+    at-end (l .inv) (omega arith)
+
+pub run-events-spec : {M : Type 1} → statement M
+run-events-spec =
+    tie.close
+    (tie.spec
+    Inv-loop
+    μ-loop
+    loop-holds
+    read-record-requires
+    do-event-requires
+    returns
+    add-rounds
+    add-at
+    loop-less
+    loop-again
+    returns-2)
