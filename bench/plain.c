@@ -1,6 +1,12 @@
+#include <string.h>
 #include "plain.h"
 
 #define MAX_LABEL 2031585u
+
+static const uint16_t grades[16] = {0, 600, 480, 380, 300, 240, 190, 150, 120, 95, 75, 60, 48, 38, 30, 24};
+
+/* the body bytes of each kind */
+static const uint8_t body_bytes[8] = {0, 2, 4, 10, 10, 128, 0, 3};
 
 int plain_change(struct plain_net *x, uint32_t s, uint32_t r, uint32_t cost)
 {
@@ -10,6 +16,11 @@ int plain_change(struct plain_net *x, uint32_t s, uint32_t r, uint32_t cost)
         x->held_list[r][s] = 0;
     x->cost[r][s] = cost;
     return 0;
+}
+
+int plain_grade(struct plain_net *x, uint32_t s, uint32_t r, uint32_t grade)
+{
+    return grade > 15 ? 3 : plain_change(x, s, r, grades[grade]);
 }
 
 static void renew(struct plain_net *x)
@@ -38,6 +49,11 @@ static void renew(struct plain_net *x)
     }
 }
 
+static uint32_t all_nodes(uint32_t n)
+{
+    return n == 32 ? 0xffffffff : (1u << n) - 1;
+}
+
 static void hear(struct plain_net *x, uint32_t r, uint32_t s)
 {
     x->held_label[r][s] = x->row_label[s];
@@ -48,7 +64,7 @@ int plain_round(struct plain_net *x, const uint32_t *marks, uint64_t count)
 {
     if (count != 32)
         return 1;
-    uint32_t all = x->n == 32 ? 0xffffffff : (1u << x->n) - 1;
+    uint32_t all = all_nodes(x->n);
     for (uint32_t r = 0; r < 32; r++)
         if (marks[r] & ~(r < x->n ? all & ~(1u << r) : 0))
             return 3;
@@ -71,4 +87,222 @@ void plain_full_round(struct plain_net *x)
             if (x->cost[r][s])
                 hear(x, r, s);
     renew(x);
+}
+
+static uint32_t get16(const uint8_t *p)
+{
+    return (uint32_t)p[0] << 8 | p[1];
+}
+
+static uint32_t get32(const uint8_t *p)
+{
+    return (uint32_t)p[0] << 24 | (uint32_t)p[1] << 16 | (uint32_t)p[2] << 8 | p[3];
+}
+
+static uint8_t *put16(uint8_t *p, uint32_t v)
+{
+    p[0] = v >> 8;
+    p[1] = v;
+    return p + 2;
+}
+
+static uint8_t *put32(uint8_t *p, uint32_t v)
+{
+    p[0] = v >> 24;
+    p[1] = v >> 16;
+    p[2] = v >> 8;
+    p[3] = v;
+    return p + 4;
+}
+
+static void fresh(struct plain_net *x, uint32_t n, uint32_t origin)
+{
+    memset(x, 0, sizeof *x);
+    x->n = n;
+    x->origin = origin;
+    x->row_list[origin] = 1u << origin;
+}
+
+static struct plain_answer refused(struct plain_net *x, int number, uint64_t place)
+{
+    fresh(x, 1, 0);
+    return (struct plain_answer){number, place};
+}
+
+static int arc_record(struct plain_net *x, const uint8_t *b, uint32_t *next)
+{
+    uint32_t s = b[0], r = b[1], cost = get16(b + 2);
+    if (s >= x->n || r >= x->n || s == r || cost == 0)
+        return 3;
+    uint32_t rank = s * 32 + r;
+    if (rank < *next)
+        return 4;
+    *next = rank + 1;
+    x->cost[r][s] = cost;
+    return 0;
+}
+
+static int row_record(struct plain_net *x, const uint8_t *b, uint32_t *next)
+{
+    uint32_t y = b[0], label = get32(b + 1), from = b[5], list = get32(b + 6);
+    if (y >= x->n)
+        return 3;
+    uint32_t rank = 1024 + y;
+    if (rank < *next)
+        return 4;
+    if (y == x->origin || label == 0 || label > MAX_LABEL || from >= x->n || from == y || (list & ~all_nodes(x->n)) || !(list >> y & 1))
+        return 5;
+    *next = rank + 1;
+    x->row_label[y] = label;
+    x->row_from[y] = from;
+    x->row_list[y] = list;
+    return 0;
+}
+
+static int report_record(struct plain_net *x, const uint8_t *b, uint32_t *next)
+{
+    uint32_t s = b[0], r = b[1], label = get32(b + 2), list = get32(b + 6);
+    if (s >= x->n || r >= x->n || s == r)
+        return 3;
+    uint32_t rank = 1056 + s * 32 + r;
+    if (rank < *next)
+        return 4;
+    if (label > MAX_LABEL || (list & ~all_nodes(x->n)) || !(list >> s & 1) || x->cost[r][s] == 0)
+        return 5;
+    *next = rank + 1;
+    x->held_label[r][s] = label;
+    x->held_list[r][s] = list;
+    return 0;
+}
+
+struct plain_answer plain_open(struct plain_net *x, const uint8_t *in, uint64_t size, uint64_t *used)
+{
+    *used = 0;
+    if (size == 0)
+        return refused(x, 1, 0);
+    if (in[0] != 1)
+        return refused(x, 2, 0);
+    if (size < 3)
+        return refused(x, 1, 0);
+    if (in[1] == 0 || in[1] > 32 || in[2] >= in[1])
+        return refused(x, 3, 0);
+    fresh(x, in[1], in[2]);
+    uint32_t next = 0; /* the least rank in image order that may follow */
+    for (uint64_t at = 3; at < size;) {
+        uint8_t kind = in[at];
+        int number;
+        if (kind == 0) {
+            *used = at + 1;
+            return (struct plain_answer){0, 0};
+        }
+        if (kind < 2 || kind > 4)
+            return refused(x, 2, at);
+        if (size - at - 1 < body_bytes[kind])
+            return refused(x, 1, at);
+        if (kind == 2)
+            number = arc_record(x, in + at + 1, &next);
+        else if (kind == 3)
+            number = row_record(x, in + at + 1, &next);
+        else
+            number = report_record(x, in + at + 1, &next);
+        if (number)
+            return refused(x, number, at);
+        at += 1 + body_bytes[kind];
+    }
+    return refused(x, 1, size);
+}
+
+static int marked_round(struct plain_net *x, const uint8_t *b)
+{
+    uint32_t marks[32];
+    for (uint32_t r = 0; r < 32; r++)
+        marks[r] = get32(b + 4 * r);
+    return plain_round(x, marks, 32);
+}
+
+struct plain_answer plain_run(struct plain_net *x, const uint8_t *in, uint64_t size, uint64_t *rounds)
+{
+    uint64_t at;
+    *rounds = 0;
+    struct plain_answer opened = plain_open(x, in, size, &at);
+    if (opened.number)
+        return opened;
+    while (at < size) {
+        uint8_t kind = in[at];
+        const uint8_t *b = in + at + 1;
+        int number = 0;
+        if (kind != 2 && (kind < 5 || kind > 7))
+            return (struct plain_answer){2, at};
+        if (size - at - 1 < body_bytes[kind])
+            return (struct plain_answer){1, at};
+        if (kind == 2)
+            number = plain_change(x, b[0], b[1], get16(b + 2));
+        else if (kind == 5)
+            number = marked_round(x, b);
+        else if (kind == 6)
+            plain_full_round(x);
+        else
+            number = plain_grade(x, b[0], b[1], b[2]);
+        if (number)
+            return (struct plain_answer){number, at};
+        *rounds += kind == 5 || kind == 6;
+        at += 1 + body_bytes[kind];
+    }
+    return (struct plain_answer){0, 0};
+}
+
+static uint64_t image_length(const struct plain_net *x)
+{
+    uint64_t length = 4;
+    for (uint32_t r = 0; r < x->n; r++) {
+        if (r != x->origin && x->row_list[r])
+            length += 11;
+        for (uint32_t s = 0; s < x->n; s++) {
+            if (x->cost[r][s])
+                length += 5;
+            if (x->held_list[r][s])
+                length += 11;
+        }
+    }
+    return length;
+}
+
+int plain_image(const struct plain_net *x, uint8_t *out, uint64_t room, uint64_t *length)
+{
+    *length = 0;
+    uint64_t whole = image_length(x);
+    if (room < whole)
+        return 6;
+    uint8_t *p = out;
+    *p++ = 1;
+    *p++ = x->n;
+    *p++ = x->origin;
+    for (uint32_t s = 0; s < x->n; s++)
+        for (uint32_t r = 0; r < x->n; r++)
+            if (x->cost[r][s]) {
+                *p++ = 2;
+                *p++ = s;
+                *p++ = r;
+                p = put16(p, x->cost[r][s]);
+            }
+    for (uint32_t y = 0; y < x->n; y++)
+        if (y != x->origin && x->row_list[y]) {
+            *p++ = 3;
+            *p++ = y;
+            p = put32(p, x->row_label[y]);
+            *p++ = x->row_from[y];
+            p = put32(p, x->row_list[y]);
+        }
+    for (uint32_t s = 0; s < x->n; s++)
+        for (uint32_t r = 0; r < x->n; r++)
+            if (x->held_list[r][s]) {
+                *p++ = 4;
+                *p++ = s;
+                *p++ = r;
+                p = put32(p, x->held_label[r][s]);
+                p = put32(p, x->held_list[r][s]);
+            }
+    *p = 0;
+    *length = whole;
+    return 0;
 }

@@ -1,4 +1,4 @@
-/* A plain C version of document 01's rule, written by hand to measure the proved one against. */
+/* A plain C version of document 01's rules, written by hand to measure the proved one against. */
 #ifndef PLAIN_H
 #define PLAIN_H
 #include <stdint.h>
@@ -11,7 +11,20 @@ struct plain_net {
     uint32_t row_label[32], row_from[32], row_list[32]; /* list 0: no route */
 };
 
+/* number and place; both 0 where accepted */
+struct plain_answer {
+    int number;
+    uint64_t place;
+};
+
 int plain_change(struct plain_net *x, uint32_t sender, uint32_t receiver, uint32_t cost);
+int plain_grade(struct plain_net *x, uint32_t sender, uint32_t receiver, uint32_t grade);
 int plain_round(struct plain_net *x, const uint32_t *marks, uint64_t count);
 void plain_full_round(struct plain_net *x);
+
+/* x becomes the image's network, or the fresh network of one node where it is refused */
+struct plain_answer plain_open(struct plain_net *x, const uint8_t *in, uint64_t size, uint64_t *used);
+struct plain_answer plain_run(struct plain_net *x, const uint8_t *in, uint64_t size, uint64_t *rounds);
+/* writes nothing where it is refused; length is then 0 */
+int plain_image(const struct plain_net *x, uint8_t *out, uint64_t room, uint64_t *length);
 #endif

@@ -13,7 +13,6 @@ ghost use Rattle.opening.specs.Answers.{nextOf, Places, finishMeans, hea
 use memory::Network;
 use records::ArcChange;
 use records::Event;
-use records::Section;
 
 // What opening an image answers: a number, 0 where it is accepted, the place of a refusal, the bytes used, and the network.
 pub struct Opened {
@@ -179,7 +178,7 @@ fn read_records(net: &mut Network, input: &[u8], start: usize) -> Finish
     let mut next = 0usize;
     let mut at = start;
     loop {
-        let record = reading::read_record(input, at, Section::Image);
+        let record = reading::image_record(input, at);
         let event = record.event;
         let length = record.length;
         let step = place_event(net, next, event);
@@ -191,7 +190,8 @@ fn read_records(net: &mut Network, input: &[u8], start: usize) -> Finish
                 };
             }
             Next::Finished => {
-                return Finish::Accepted { used: at + 1 };
+                let used = at + 1;
+                return Finish::Accepted { used: used };
             }
             Next::Onward { next: above } => {
                 next = above;
@@ -248,7 +248,7 @@ fn open_records(input: &[u8], start: usize, nodes: u32, origin: u32) -> Opened
 pub fn open_image(input: &[u8]) -> Opened
     ensures { λ r. ⌜ Opens (openOf (now (input .entry))) r ⌝ }
 {
-    let first = reading::read_record(input, 0, Section::Start);
+    let first = reading::start_record(input);
     let event = first.event;
     let start = first.length;
     match event {

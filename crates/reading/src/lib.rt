@@ -2,17 +2,15 @@
 //
 // The crate `records` has document 01's definitions; the function that others can reach has no precondition.
 ghost use mathlib.Core.Path.{_≡_};
-ghost use mathlib.Core.Bool.{cond};
 ghost use Prim.Native.Nat.{_+_, _*_, _<_};
-ghost use lib.Dec.{ltb};
 ghost use lib.ListN.{length, drop};
 ghost use Rattle.records.specs.Numbers.{num8, num16, num32};
-ghost use Rattle.records.specs.Records.{arcChange, gradeChange, allowed, refusedRecord, bodied, recordOf};
+ghost use Rattle.records.specs.Records.{arcChange, gradeChange, refusedRecord, recordOf};
+ghost use Rattle.records.specs.declared.Section.the-variants.{Start, Image, Events};
 ghost use Rattle.records.specs.declared.Event.the-variants.{Header, Change, Row, Report};
 use records::ArcChange;
 use records::Event;
 use records::Record;
-use records::Section;
 
 // A byte as a number of 32 bits.
 fn wide(x: u8) -> u32
@@ -138,32 +136,38 @@ fn refused(number: u8, at: usize) -> Record
     }
 }
 
-// Whether a kind below 8 is allowed in a section.
-fn allows(section: Section, kind: u8) -> bool
-    ensures { λ b. ⌜ (kind < 8 → b ≡ allowed section kind) ⌝ }
+// The first record: kind 1. A missing kind byte is refused as 1, then another kind as 2, then a short body as 1.
+pub fn start_record(input: &[u8]) -> Record
+    ensures { λ r. ⌜ r ≡ recordOf Start 0 (now (input .entry)) ⌝ }
 {
-    match section {
-        Section::Start => kind == 1,
-        Section::Image => {
-            if kind == 1 {
-                return false;
+    if input.len() == 0 {
+        return refused(1, 0);
+    }
+    let kind = input[0];
+    let left = input.len() - 1;
+    match kind {
+        1 => {
+            if left < 2 {
+                return refused(1, 0);
             }
-            kind < 5
-        }
-        Section::Events => {
-            if kind == 2 {
-                return true;
+            Record {
+                event: header_body(&input[1..3]),
+                length: 3,
             }
-            4 < kind
         }
+        _ => refused(2, 0),
     }
 }
 
-// The record of a kind: its body's length, and what reads the body, which follows the kind byte.
-fn read_kind(input: &[u8], at: usize, kind: u8) -> Record
-    requires { ⌜ at < length (now input) ⌝ }
-    ensures { λ r. ⌜ r ≡ cond (ltb kind 8) (bodied at kind (drop (at + 1) (now (input .entry)))) (refusedRecord 2 at) ⌝ }
+// The record at the place `at` inside an image: kinds 0 and 2 to 4. A missing kind byte is refused as 1, then another kind as 2, then a
+// short body as 1.
+pub fn image_record(input: &[u8], at: usize) -> Record
+    ensures { λ r. ⌜ r ≡ recordOf Image at (drop at (now (input .entry))) ⌝ }
 {
+    if input.len() <= at {
+        return refused(1, at);
+    }
+    let kind = input[at];
     let start = at + 1;
     let left = input.len() - start;
     match kind {
@@ -171,15 +175,6 @@ fn read_kind(input: &[u8], at: usize, kind: u8) -> Record
             event: Event::End,
             length: 1,
         },
-        1 => {
-            if left < 2 {
-                return refused(1, at);
-            }
-            Record {
-                event: header_body(&input[start..start + 2]),
-                length: 3,
-            }
-        }
         2 => {
             if left < 4 {
                 return refused(1, at);
@@ -207,6 +202,31 @@ fn read_kind(input: &[u8], at: usize, kind: u8) -> Record
                 length: 11,
             }
         }
+        _ => refused(2, at),
+    }
+}
+
+// The record at the place `at` after an image: kinds 2 and 5 to 7. A missing kind byte is refused as 1, then another kind as 2, then a short
+// body as 1.
+pub fn event_record(input: &[u8], at: usize) -> Record
+    ensures { λ r. ⌜ r ≡ recordOf Events at (drop at (now (input .entry))) ⌝ }
+{
+    if input.len() <= at {
+        return refused(1, at);
+    }
+    let kind = input[at];
+    let start = at + 1;
+    let left = input.len() - start;
+    match kind {
+        2 => {
+            if left < 4 {
+                return refused(1, at);
+            }
+            Record {
+                event: arc_body(&input[start..start + 4]),
+                length: 5,
+            }
+        }
         5 => {
             if left < 128 {
                 return refused(1, at);
@@ -231,18 +251,4 @@ fn read_kind(input: &[u8], at: usize, kind: u8) -> Record
         }
         _ => refused(2, at),
     }
-}
-
-// The record at the place `at`: a missing kind byte is refused as 1, then a kind that is unknown or not allowed here as 2, then a short body as 1.
-pub fn read_record(input: &[u8], at: usize, section: Section) -> Record
-    ensures { λ r. ⌜ r ≡ recordOf section at (drop at (now (input .entry))) ⌝ }
-{
-    if input.len() <= at {
-        return refused(1, at);
-    }
-    let kind = input[at];
-    if allows(section, kind) {
-        return read_kind(input, at, kind);
-    }
-    refused(2, at)
 }

@@ -4,7 +4,6 @@
 use memory::Network;
 use records::ArcChange;
 use records::Event;
-use records::Section;
 ghost use mathlib.Core.Path.{_≡_};
 ghost use mathlib.Core.List.{[]};
 ghost use Prim.Native.Nat.{_+_, _≤_, _<_};
@@ -146,7 +145,7 @@ fn run_events(net: &mut Network, input: &[u8], start: usize) -> Finish
     let mut at = start;
     let mut rounds: usize = 0;
     while at < input.len() {
-        let record = reading::read_record(input, at, Section::Events);
+        let record = reading::event_record(input, at);
         let event = record.event;
         let done = do_event(net, input, at, event);
         if done.number != 0 {

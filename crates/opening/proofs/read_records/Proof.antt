@@ -22,8 +22,8 @@ loop-holds c =
     let a = c .before .args in
     begin (now (a .input)) (view (now (a .net))) (a .start) (c .before .pre .0) (c .before .pre .1)
 
-read-record-requires : tie.Need-read-record-requires Inv-loop μ-loop
-read-record-requires c κs = search needs
+image-record-requires : tie.Need-image-record-requires Inv-loop μ-loop
+image-record-requires c κs = search needs
 
 place-event-requires : tie.Need-place-event-requires Inv-loop μ-loop
 place-event-requires c κs = search needs
@@ -34,20 +34,20 @@ enum-known-step c = search needs
 returns : tie.Need-returns Inv-loop μ-loop
 returns c =
     let l = c .before .before .before .before .before .before .loop in
-    let d = c .before .before .before .before .before .read-record in
+    let d = c .before .before .before .before .before .image-record in
     let p = c .before .before .before .place-event in
     at-stop _ _ _ _ _ (l .inv) _ (d .ensures) _ _ (p .ensures) _ (c .before .step .given .1)
 
 enum-told : tie.Need-enum-told Inv-loop μ-loop
 enum-told c = search needs
 
-add-t14 : tie.Need-add-t14 Inv-loop μ-loop
-add-t14 c = omega (arith, c .before .before .before .before .before .loop .inv .within)
+add-used : tie.Need-add-used Inv-loop μ-loop
+add-used c = omega (arith, c .before .before .before .before .before .loop .inv .within)
 
 returns-2 : tie.Need-returns-2 Inv-loop μ-loop
 returns-2 c =
     let l = c .before .before .before .before .before .loop in
-    let d = c .before .before .before .before .read-record in
+    let d = c .before .before .before .before .image-record in
     let p = c .before .before .place-event in
     at-end _ _ _ _ _ (l .inv) _ (d .ensures) _ _ (p .ensures) (c .enum-told .given .1)
 
@@ -57,14 +57,14 @@ enum-known-step-2 c = search needs
 add-at : tie.Need-add-at Inv-loop μ-loop
 add-at c =
     let l = c .before .before .before .before .before .before .loop in
-    let d = c .before .before .before .before .before .read-record in
+    let d = c .before .before .before .before .before .image-record in
     let p = c .before .before .before .place-event in
     omega (arith, at-next _ _ _ _ _ (l .inv) _ (d .ensures) _ _ (p .ensures) _ (c .before .step2 .given .1) .2)
 
 loop-less : tie.Need-loop-less Inv-loop μ-loop
 loop-less c =
     let l = c .before .before .before .before .before .before .loop in
-    let d = c .before .before .before .before .before .read-record in
+    let d = c .before .before .before .before .before .image-record in
     let p = c .before .before .before .place-event in
     let m = at-next _ _ _ _ _ (l .inv) _ (d .ensures) _ _ (p .ensures) _ (c .before .step2 .given .1) in
     omega (arith, m .1, m .2)
@@ -72,7 +72,7 @@ loop-less c =
 loop-again : tie.Need-loop-again Inv-loop μ-loop
 loop-again c =
     let l = c .before .before .before .before .before .before .loop in
-    let d = c .before .before .before .before .before .read-record in
+    let d = c .before .before .before .before .before .image-record in
     let p = c .before .before .before .place-event in
     at-next _ _ _ _ _ (l .inv) _ (d .ensures) _ _ (p .ensures) _ (c .before .step2 .given .1) .0
 
@@ -83,12 +83,12 @@ read-records-spec =
     Inv-loop
     μ-loop
     loop-holds
-    read-record-requires
+    image-record-requires
     place-event-requires
     enum-known-step
     returns
     enum-told
-    add-t14
+    add-used
     returns-2
     enum-known-step-2
     add-at

@@ -21,19 +21,19 @@ loop-holds : tie.Need-loop-holds Inv-loop μ-loop
 loop-holds c =
     let a = c .before .args in begin (now (a .input)) (view (now (a .net))) (a .start) (c .before .pre)
 
-read-record-requires : tie.Need-read-record-requires Inv-loop μ-loop
-read-record-requires c κs = search needs
+event-record-requires : tie.Need-event-record-requires Inv-loop μ-loop
+event-record-requires c κs = search needs
 
 do-event-requires : tie.Need-do-event-requires Inv-loop μ-loop
 do-event-requires c κs =
     let a = c .before .before .before .before .before .args in
-    let r = c .before .read-record in round-at (now (a .input)) (c .before .before .before .loop .at) (r .result) (r .ensures)
+    let r = c .before .event-record in round-at (now (a .input)) (c .before .before .before .loop .at) (r .result) (r .ensures)
 
 returns : tie.Need-returns Inv-loop μ-loop
 returns c =
     let a = c .before .before .before .before .before .before .before .before .args in
     let l = c .before .before .before .before .before .before .loop in
-    let r = c .before .before .before .before .read-record in
+    let r = c .before .before .before .before .event-record in
     let d = c .before .before .do-event in
     at-stop (l .inv) (omega arith) (r .ensures) (d .ensures) (c .if1 .taken)
 
@@ -41,7 +41,7 @@ add-rounds : tie.Need-add-rounds Inv-loop μ-loop
 add-rounds c =
     let a = c .before .before .before .before .before .before .before .before .before .args in
     let l = c .before .before .before .before .before .before .before .loop in
-    let r = c .before .before .before .before .before .read-record in
+    let r = c .before .before .before .before .before .event-record in
     let d = c .before .before .before .do-event in
     let m = at-next (l .inv) (omega arith) (r .ensures) (d .ensures) (c .before .if1 .left) in
     omega (arith, m .0 .few, m .2)
@@ -50,7 +50,7 @@ add-at : tie.Need-add-at Inv-loop μ-loop
 add-at c =
     let a = c .before .before .before .before .before .before .before .before .before .before .args in
     let l = c .before .before .before .before .before .before .before .before .loop in
-    let r = c .before .before .before .before .before .before .read-record in
+    let r = c .before .before .before .before .before .before .event-record in
     let d = c .before .before .before .before .do-event in
     let m = at-next (l .inv) (omega arith) (r .ensures) (d .ensures) (c .before .before .if1 .left) in
     omega (arith, m .2, c .before .before .before .before .before .before .before .before .before .before .good .1 .0 .0)
@@ -59,7 +59,7 @@ loop-less : tie.Need-loop-less Inv-loop μ-loop
 loop-less c =
     let a = c .before .before .before .before .before .before .before .before .before .before .args in
     let l = c .before .before .before .before .before .before .before .before .loop in
-    let r = c .before .before .before .before .before .before .read-record in
+    let r = c .before .before .before .before .before .before .event-record in
     let d = c .before .before .before .before .do-event in
     let m = at-next (l .inv) (omega arith) (r .ensures) (d .ensures) (c .before .before .if1 .left) in
     omega (arith, m .1, m .2)
@@ -68,7 +68,7 @@ loop-again : tie.Need-loop-again Inv-loop μ-loop
 loop-again c =
     let a = c .before .before .before .before .before .before .before .before .before .before .args in
     let l = c .before .before .before .before .before .before .before .before .loop in
-    let r = c .before .before .before .before .before .before .read-record in
+    let r = c .before .before .before .before .before .before .event-record in
     let d = c .before .before .before .before .do-event in
     at-next (l .inv) (omega arith) (r .ensures) (d .ensures) (c .before .before .if1 .left) .0
 
@@ -85,7 +85,7 @@ run-events-spec =
     Inv-loop
     μ-loop
     loop-holds
-    read-record-requires
+    event-record-requires
     do-event-requires
     returns
     add-rounds
