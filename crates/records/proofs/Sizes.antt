@@ -8,6 +8,7 @@ use Prim.Native.Nat.{ℕ, suc, _+_, _*_, _-_, _<_, _≤_}
 use native.Mathlib.Omega.{arith}
 use lib.Dec.{eqb}
 use lib.ListN.{length, length-append}
+use Rattle.ancestors.specs.Ancestors.{own}
 use Rattle.ancestors.proofs.Cases.{bool-cases}
 use Rattle.network.specs.Faults.{pairFault, nodeFault}
 use Rattle.network.specs.Network.{Row, none, root, via, Report, empty, told, Net, Within}
@@ -102,22 +103,21 @@ pairs-most x f m h =
     self s (inr e) = absurd (pair-says (x .nodes) s s e .2 refl)
 
 -- the origin's row is not written
-rows-most : (x : Net) → Within x → length (byNode x (λ y. rowBytes y (x .row y))) ≤ 341
+rows-most : (x : Net) (l : ℕ) → x .origin < 32 → x .row (x .origin) ≡ root l → length (byNode x (λ y. rowBytes y (x .row y))) ≤ 341
 unfolding byNode rowBytes
-rows-most x w =
-    let size = within-size x w in
-    each-gap (λ y. cond (nodeFault (x .nodes) y) [] (rowBytes y (x .row y))) 11 32 (x .origin) (omega (arith, size .1, size .2))
-    (none-there (nodeFault (x .nodes) (x .origin)) (ap (rowBytes (x .origin)) (w .origin-row)))
+rows-most x l h e =
+    each-gap (λ y. cond (nodeFault (x .nodes) y) [] (rowBytes y (x .row y))) 11 32 (x .origin) h
+    (none-there (nodeFault (x .nodes) (x .origin)) (ap (rowBytes (x .origin)) e))
     (λ y. cond-most 11 (nodeFault (x .nodes) y) (rowBytes y (x .row y)) (row-most y (x .row y)))
   where
     none-there : (b : Bool) → rowBytes (x .origin) (x .row (x .origin)) ≡ [] → cond b [] (rowBytes (x .origin) (x .row (x .origin))) ≡ []
     none-there true e = refl
     none-there false e = e
 
--- an image is at most 16,217 bytes
-pub image-most : (x : Net) → Within x → length (image x) ≤ 16217
+-- an image is at most 16,217 bytes if the origin is one of 32 nodes and has the origin's row
+pub image-bound : (x : Net) (l : ℕ) → x .origin < 32 → x .row (x .origin) ≡ root l → length (image x) ≤ 16217
 unfolding image
-image-most x w =
+image-bound x l h o =
     let arcs = byPair x (λ s r. arcBytes s r (x .cost s r)) in
     let rows = byNode x (λ y. rowBytes y (x .row y)) in
     let reports = byPair x (λ s r. reportBytes s r (x .held s r)) in
@@ -126,6 +126,12 @@ image-most x w =
     let c = length-append rows (reports ++ endRecord) in
     let d = length-append reports endRecord in
     let e = pairs-most x (λ s r. arcBytes s r (x .cost s r)) 5 (λ s r. arc-most s r (x .cost s r)) in
-    let f = rows-most x w in
+    let f = rows-most x l h o in
     let g = pairs-most x (λ s r. reportBytes s r (x .held s r)) 11 (λ s r. report-most s r (x .held s r)) in
     omega (arith, a, b, c, d, e, f, g, header-long (x .nodes) (x .origin), end-long)
+
+-- as in every network within limits
+pub image-most : (x : Net) → Within x → length (image x) ≤ 16217
+image-most x w =
+    let size = within-size x w in
+    image-bound x (own (x .origin)) (omega (arith, size .1, size .2)) (w .origin-row)
