@@ -1,7 +1,8 @@
-// The round calls under C names, for the benchmark in bench/. Each is the call itself, with its contract.
+// The calls under C names, for the benchmark in bench/ and the comparison in tests/. A change, a grade and a round are the call itself, with its
+// contract; the others hand out the answer in lent words.
 use memory::Network;
 ghost use Rattle.network.specs.Round.{roundOf, fullRoundOf};
-ghost use Rattle.network.specs.Change.{changeOf};
+ghost use Rattle.network.specs.Change.{changeOf, gradeOf};
 ghost use Rattle.memory.specs.Layout.{view};
 ghost use Rattle.memory.specs.Answers.{Leaves};
 
@@ -10,6 +11,13 @@ pub extern "C" fn bench_change(net: &mut Network, sender: u32, receiver: u32, co
     ensures { λ k. ⌜ Leaves (changeOf (view (now (net .entry))) sender receiver cost) k (now (net .entry)) (now (net .exit)) ⌝ }
 {
     memory::change(net, sender, receiver, cost)
+}
+
+#[no_mangle]
+pub extern "C" fn bench_grade(net: &mut Network, sender: u32, receiver: u32, value: u32) -> u8
+    ensures { λ k. ⌜ Leaves (gradeOf (view (now (net .entry))) sender receiver value) k (now (net .entry)) (now (net .exit)) ⌝ }
+{
+    memory::grade(net, sender, receiver, value)
 }
 
 #[no_mangle]
@@ -24,4 +32,42 @@ pub extern "C" fn bench_full_round(net: &mut Network) -> u8
     ensures { λ k. ⌜ Leaves (fullRoundOf (view (now (net .entry)))) k (now (net .entry)) (now (net .exit)) ⌝ }
 {
     routing::full_round(net)
+}
+
+// Opening: number, place and bytes used in answer, and the network.
+#[no_mangle]
+pub extern "C" fn bench_open(input: &[u8], answer: &mut [u64; 3], net: &mut Network) {
+    let opened = opening::open_image(input);
+    let found = opened.net;
+    answer[0] = opened.number as u64;
+    answer[1] = opened.place as u64;
+    answer[2] = opened.used as u64;
+    *net = found;
+}
+
+// A run: number, place and accepted rounds in answer, and the network.
+#[no_mangle]
+pub extern "C" fn bench_run(input: &[u8], answer: &mut [u64; 3], net: &mut Network) {
+    let ran = running::run(input);
+    let found = ran.net;
+    answer[0] = ran.number as u64;
+    answer[1] = ran.place as u64;
+    answer[2] = ran.rounds as u64;
+    *net = found;
+}
+
+// Image writing: number and bytes written in answer.
+#[no_mangle]
+pub extern "C" fn bench_image(net: &Network, out: &mut [u8], answer: &mut [u64; 2]) {
+    let written = image::write_image(net, out);
+    answer[0] = written.number as u64;
+    answer[1] = written.length as u64;
+}
+
+// A route: number and bytes written in answer.
+#[no_mangle]
+pub extern "C" fn bench_route(net: &Network, node: u32, out: &mut [u8], answer: &mut [u64; 2]) {
+    let written = route::route(net, node, out);
+    answer[0] = written.number as u64;
+    answer[1] = written.length as u64;
 }

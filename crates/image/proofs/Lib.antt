@@ -1,0 +1,5 @@
+pub mod Parts
+pub mod Reading
+pub mod Lengths
+pub mod Parting
+pub mod Answering

@@ -1,0 +1,123 @@
+-- What an output holds when its rest, lent from a place on, has come back with bytes written at the rest's front.
+-- Assumes nothing.
+use mathlib.Core.Path.{_≡_, refl, sym, ap, _∙_}
+use mathlib.Core.List.{List, [], _∷_, _++_, append-assoc, append-nil}
+use Prim.Native.Nat.{ℕ, _+_, _-_, _≤_}
+use native.Mathlib.Omega.{arith}
+use lib.ListN.{length, take, drop, set, length-append, length-drop, take-append-drop, drop-of-length-le}
+use lib.Seq.{length-take-le, take-at, drop-at, take-all, drop-drop}
+use Rattle.image.specs.Filling.{Wrote, Added}
+
+-- nothing written
+pub wrote-none : {w : List ℕ} (e : List ℕ) → w ≡ [] → Wrote w e e 0
+wrote-none e p = record { used = sym (ap length p); left = rw p }
+
+-- one byte stored at the front
+pub wrote-byte : (v : ℕ) (e : List ℕ) → 1 ≤ length e → Wrote (v ∷ []) e (set e 0 v) 1
+wrote-byte v [] h = absurd (omega arith)
+wrote-byte v (x ∷ e) h = record { used = refl; left = refl }
+
+-- the same bytes in other words
+pub wrote-as : {s w e x : List ℕ} {r : ℕ} → s ≡ w → Wrote w e x r → Wrote s e x r
+wrote-as p h = rw p h
+
+-- the place is within the output, and the output is as long as it was
+pub within : {w e x : List ℕ} {a : ℕ} → Wrote w e x a → a ≤ length x
+within {w} {e} {x} {a} h = omega (arith, h .used, ap length (h .left), length-append w (drop a e))
+
+pub as-long : {w e x : List ℕ} {a : ℕ} → Wrote w e x a → a ≤ length e → length x ≡ length e
+as-long {w} {e} {x} {a} h m = omega (arith, h .used, ap length (h .left), length-append w (drop a e), length-drop a e)
+
+-- the part lent from a on is what the written bytes stand before
+pub lent : {w e x : List ℕ} {a : ℕ} → Wrote w e x a → take (length x - a) (drop a x) ≡ drop a e
+lent {w} {e} {x} {a} h =
+    let r : drop a x ≡ drop a e = ap (drop a) (h .left) ∙ drop-at w (drop a e) a (sym (h .used)) in
+    let l : length x ≡ a + length (drop a e) = omega (arith, h .used, ap length (h .left), length-append w (drop a e)) in
+    ap (take (length x - a)) r ∙ take-all (length x - a) (drop a e) (omega arith)
+
+-- that part has room for k bytes where the output has room for them after those written
+pub room : {w e x : List ℕ} {a : ℕ} (k : ℕ) → Wrote w e x a → a + k ≤ length e → k ≤ length (take (length x - a) (drop a x))
+room {w} {e} {x} {a} k h m = omega (arith, ap length (lent h), length-drop a e)
+
+-- bytes written in the rest, after those that stand
+pub wrote-then : {w v e x y : List ℕ} {a k : ℕ} → Wrote w e x a → Wrote v (take (length x - a) (drop a x)) y k
+    → Wrote (w ++ v) e (take a x ++ (y ++ drop (length x - a) (drop a x))) (a + k)
+wrote-then {w} {v} {e} {x} {y} {a} {k} h g =
+    let t : take a x ≡ w = ap (take a) (h .left) ∙ take-at w (drop a e) a (sym (h .used)) in
+    let z : drop (length x - a) (drop a x) ≡ [] = drop-of-length-le (drop a x) {i = length x - a} (simp length-drop (omega arith)) in
+    let s : y ≡ v ++ drop (a + k) e = g .left ∙ ap (λ (l : List ℕ). v ++ drop k l) (lent h) ∙ ap (λ (l : List ℕ). v ++ l) (drop-drop k a e) in
+    record {
+      used = omega (arith, h .used, g .used, length-append w v);
+      left = rw (t, z, s) (simp (append-nil, append-assoc));
+    }
+
+-- there is room for the same bytes in other words
+pub room-as : {s w : List ℕ} {n m : ℕ} → s ≡ w → length w ≡ n → length s ≤ m → n ≤ m
+room-as p q h = omega (arith, ap length p)
+
+-- ---- bytes written from a place on
+
+-- as bytes written after those that stand before the place
+added-wrote : {w e x : List ℕ} {a b : ℕ} → Added w e x a b → Wrote (take a e ++ w) e x b
+added-wrote {w} {e} {x} {a} {b} h =
+    record {
+      used = omega (arith, h .place, length-append (take a e) w, length-take-le a e (h .within));
+      left = h .left ∙ sym (append-assoc (take a e) w (drop b e));
+    }
+
+-- none written
+pub added-none : {w : List ℕ} (e : List ℕ) (a : ℕ) → w ≡ [] → a ≤ length e → Added w e e a a
+added-none e a p h =
+    record {
+      within = h;
+      place = rw p (omega arith);
+      left = rw p (sym (take-append-drop a e));
+    }
+
+-- the same bytes in other words
+pub added-as : {s w e x : List ℕ} {a b : ℕ} → s ≡ w → Added w e x a b → Added s e x a b
+added-as p h = rw p h
+
+-- the next place is within the output, and the output is as long as it was
+pub added-within : {w e x : List ℕ} {a b : ℕ} → Added w e x a b → b ≤ length x
+added-within h = within (added-wrote h)
+
+pub added-long : {w e x : List ℕ} {a b : ℕ} → Added w e x a b → b ≤ length e → length x ≡ length e
+added-long h m = as-long (added-wrote h) m
+
+-- the part lent from b on has room for k bytes
+pub added-room : {w e x : List ℕ} {a b : ℕ} (k : ℕ) → Added w e x a b → b + k ≤ length e → k ≤ length (take (length x - b) (drop b x))
+added-room k h m = room k (added-wrote h) m
+
+-- more bytes, written in the rest
+pub added-then : {w v e x y : List ℕ} {a b k : ℕ} → Added w e x a b → Wrote v (take (length x - b) (drop b x)) y k
+    → Added (w ++ v) e (take b x ++ (y ++ drop (length x - b) (drop b x))) a (b + k)
+added-then {w} {v} {e} {x} {y} {a} {b} {k} h g =
+    record {
+      within = h .within;
+      place = omega (arith, h .place, g .used, length-append w v);
+      left = wrote-then (added-wrote h) g .left ∙ simp append-assoc;
+    }
+
+-- bytes written at the front, and others from the place after them on
+pub wrote-on : {w v e x y : List ℕ} {a b : ℕ} → Wrote w e x a → Added v x y a b → Wrote (w ++ v) e y b
+wrote-on {w} {v} {e} {x} {y} {a} {b} h g =
+    let t : take a x ≡ w = ap (take a) (h .left) ∙ take-at w (drop a e) a (sym (h .used)) in
+    let r : drop a x ≡ drop a e = ap (drop a) (h .left) ∙ drop-at w (drop a e) a (sym (h .used)) in
+    let m : b ≡ a + length v = g .place in
+    let d : drop b x ≡ drop b e =
+    ap (λ (k : ℕ). drop k x) m ∙ sym (drop-drop (length v) a x) ∙ ap (drop (length v)) r ∙
+    drop-drop (length v) a e ∙ sym (ap (λ (k : ℕ). drop k e) m) in
+    record {
+      used = omega (arith, h .used, m, length-append w v);
+      left = g .left ∙ rw (t, d) (sym (append-assoc w v (drop b e)));
+    }
+
+-- bytes written from a place on, and others from the next place on
+pub added-on : {w v e x y : List ℕ} {a b k : ℕ} → Added w e x a b → Added v x y b k → Added (w ++ v) e y a k
+added-on {w} {v} {e} {x} {y} {a} {b} {k} h g =
+    record {
+      within = h .within;
+      place = omega (arith, h .place, g .place, length-append w v);
+      left = wrote-on (added-wrote h) g .left ∙ simp append-assoc;
+    }

@@ -1,0 +1,99 @@
+-- `image::put_line` meets its contract. The loop's invariant: the records passed stand from the start on.
+-- Assumes nothing.
+use borrow.Author.Needs.{needs}
+use native.Mathlib.Omega.{arith}
+use Prim.Native.Nat.{_-_, _≤_}
+use mathlib.Core.Path.{_≡_, ap, subst}
+use lib.ListN.{length}
+use denote.Ref.{now}
+use Rattle.memory.specs.Layout.{view}
+use Rattle.records.specs.Image.{each}
+use Rattle.image.specs.Lines.{recordAt}
+use Rattle.image.specs.Filling.{Added}
+use Rattle.image.proofs.Parts.{added-none, added-as, added-within, added-long, added-room, added-then}
+use Rattle.image.proofs.Lengths.{each-zero, each-next, each-among}
+use Rattle.image.proofs.put_line.Statement.{statement}
+use Rattle.image.proofs.put_line.Tie as tie
+
+abbrev Inv-loop : tie.InvT-loop
+Inv-loop net kind s n out₀ start at₀ i₀ out at i = Added (each (recordAt (view net) kind s) 0 i) out₀ out start at × (i ≤ n)
+
+abbrev μ-loop : tie.MeasureT-loop
+μ-loop net kind s n out₀ start at₀ i₀ out at i = n - i
+
+loop-holds : tie.Need-loop-holds Inv-loop μ-loop
+loop-holds c =
+    let a = c .before .args in
+    let f = recordAt (view (now (a .net))) (a .kind) (a .s) in
+    (added-none (now (a .out)) (a .start) (each-zero f 0) (omega arith), omega arith)
+
+sub-put-record : tie.Need-sub-put-record Inv-loop μ-loop
+sub-put-record c = added-within (c .before .loop .inv .0)
+
+part-put-record-start : tie.Need-part-put-record-start Inv-loop μ-loop
+part-put-record-start c = added-within (c .before .loop .inv .0)
+
+part-put-record-end : tie.Need-part-put-record-end Inv-loop μ-loop
+part-put-record-end c = search needs
+
+put-record-requires : tie.Need-put-record-requires Inv-loop μ-loop
+put-record-requires c κs =
+    let l = c .before .before .loop in
+    let a = c .before .before .before .before .args in
+    let f = recordAt (view (now (a .net))) (a .kind) (a .s) in
+    added-room _ (l .inv .0) (omega (arith, l .inv .0 .place, each-among f (l .i) (a .n) (c .before .loop-test .taken)))
+
+add-at : tie.Need-add-at Inv-loop μ-loop
+add-at c =
+    let l = c .before .before .before .before .before .loop in
+    let a = c .before .before .before .before .before .before .before .args in
+    let f = recordAt (view (now (a .net))) (a .kind) (a .s) in
+    let used = c .before .before .put-record .ensures .used in
+    omega (arith, l .inv .0 .place, each-among f (l .i) (a .n) (c .before .before .before .before .loop-test .taken))
+
+add-i : tie.Need-add-i Inv-loop μ-loop
+add-i c = omega arith
+
+loop-less : tie.Need-loop-less Inv-loop μ-loop
+loop-less c = omega arith
+
+loop-again : tie.Need-loop-again Inv-loop μ-loop
+loop-again c =
+    let l = c .before .before .before .before .before .loop in
+    let a = c .before .before .before .before .before .before .before .args in
+    let f = recordAt (view (now (a .net))) (a .kind) (a .s) in
+    (added-as (each-next f (l .i)) (added-then (l .inv .0) (c .before .before .put-record .ensures)), omega arith)
+
+same-length : tie.Need-same-length Inv-loop μ-loop
+same-length c =
+    let l = c .before .loop in
+    let a = c .before .before .before .args in
+    let f = recordAt (view (now (a .net))) (a .kind) (a .s) in
+    let e : l .i ≡ a .n = omega arith in
+    added-long (l .inv .0) (omega (arith, l .inv .0 .place, ap (λ i. length (each f 0 i)) e))
+
+returns : tie.Need-returns Inv-loop μ-loop
+returns c =
+    let l = c .before .loop in
+    let a = c .before .before .before .args in
+    let f = recordAt (view (now (a .net))) (a .kind) (a .s) in
+    let e : l .i ≡ a .n = omega arith in
+    subst (λ i. Added (each f 0 i) (now (a .out)) (l .out) (a .start) (l .at)) e (l .inv .0)
+
+pub put-line-spec : {M : Type 1} → statement M
+put-line-spec =
+    tie.close
+    (tie.spec
+    Inv-loop
+    μ-loop
+    loop-holds
+    sub-put-record
+    part-put-record-start
+    part-put-record-end
+    put-record-requires
+    add-at
+    add-i
+    loop-less
+    loop-again
+    same-length
+    returns)
