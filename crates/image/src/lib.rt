@@ -4,6 +4,7 @@
 // the bytes used and leaves the remainder unchanged. The network is read by calls of `memory`. No public function has a precondition.
 ghost use mathlib.Core.Path.{_≡_};
 ghost use Prim.Native.Nat.{_+_, _≤_};
+ghost use lib.Dec.{leb};
 ghost use lib.ListN.{length};
 ghost use Rattle.network.specs.Writing.{Writes};
 ghost use Rattle.memory.specs.Layout.{view};
@@ -16,6 +17,9 @@ use memory::HeldRead;
 use memory::Network;
 use memory::RowRead;
 use network::Written;
+
+// The bytes of the largest image: 32 nodes, every arc with a report, every relay with a route.
+pub const MAX_IMAGE: usize = 16217;
 
 // Kinds of records.
 const END: u32 = 0;
@@ -47,11 +51,15 @@ fn put16(out: &mut [u8], x: u32)
     put8(&mut out[1..], x);
 }
 
-// A number's four bytes, at the front of a part.
+// A number's four bytes, at the front of a part. The test always passes; it parts these bytes from those before them, and the compiler joins
+// them into one store.
 fn put32(out: &mut [u8], x: u32)
     requires { ⌜ 4 ≤ length (now out) ⌝ }
     ensures { λ _. ⌜ Wrote (be32 x) (now (out .entry)) (now (out .exit)) 4 ⌝ }
 {
+    if out.len() < 4 {
+        return;
+    }
     put16(out, x / 65536);
     put16(&mut out[2..], x);
 }
@@ -300,18 +308,31 @@ fn put_image(net: &Network, out: &mut [u8]) -> usize
     end + put_end(&mut out[end..])
 }
 
+// Whether an output of this length has room for the image. No image of a network with its origin among 32 nodes is longer than the largest one, so
+// that nothing is counted for an output of that length.
+fn fits(net: &Network, room: usize) -> bool
+    ensures { λ b. ⌜ b ≡ leb (length (image (view (now (net .entry))))) room ⌝ }
+{
+    if MAX_IMAGE <= room {
+        if memory::origin(net) < network::MAX_NODES {
+            return true;
+        }
+    }
+    image_length(net) <= room
+}
+
 // Writes a network's image. The number is 0, or 6 where the output is shorter than the image, and then nothing is written.
 pub fn write_image(net: &Network, out: &mut [u8]) -> Written
     ensures { λ w. ⌜ Writes (imageOf (view (now (net .entry))) (now (out .entry))) w (now (out .exit)) ⌝ }
 {
-    if out.len() < image_length(net) {
+    if fits(net, out.len()) {
         return Written {
-            number: 6,
-            length: 0,
+            number: 0,
+            length: put_image(net, out),
         };
     }
     Written {
-        number: 0,
-        length: put_image(net, out),
+        number: 6,
+        length: 0,
     }
 }
