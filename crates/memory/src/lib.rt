@@ -111,34 +111,35 @@ fn fresh_words(n: u32, origin: u32) -> Network
     net
 }
 
-// A network of n nodes with no arcs and no routes but the origin's; refused as 3, the fresh network of one node.
+// Makes the lent words a network of n nodes with no arcs and no routes but the origin's. Answers 0; or 3 for n or an origin out of range, and
+// then they are the fresh network of one node.
+pub fn make_fresh(net: &mut Network, n: u32, origin: u32) -> u8
+    ensures { λ k. ⌜ Starts (freshOf n origin) k (now (net .exit)) ⌝ }
+{
+    if n == 0 {
+        *net = fresh_words(1, 0);
+        return 3;
+    }
+    if network::MAX_NODES < n {
+        *net = fresh_words(1, 0);
+        return 3;
+    }
+    if n <= origin {
+        *net = fresh_words(1, 0);
+        return 3;
+    }
+    *net = fresh_words(n, origin);
+    0
+}
+
+// The same network by value.
 pub fn fresh(n: u32, origin: u32) -> NewNetwork
     ensures { λ r. ⌜ Starts (freshOf n origin) (r .number) (r .net) ⌝ }
 {
-    if n == 0 {
-        let net = fresh_words(1, 0);
-        return NewNetwork {
-            number: 3,
-            net: net,
-        };
-    }
-    if network::MAX_NODES < n {
-        let net = fresh_words(1, 0);
-        return NewNetwork {
-            number: 3,
-            net: net,
-        };
-    }
-    if n <= origin {
-        let net = fresh_words(1, 0);
-        return NewNetwork {
-            number: 3,
-            net: net,
-        };
-    }
-    let net = fresh_words(n, origin);
+    let mut net = zeros();
+    let number = make_fresh(&mut net, n, origin);
     NewNetwork {
-        number: 0,
+        number: number,
         net: net,
     }
 }

@@ -1,4 +1,4 @@
--- `routing::cost_word` meets its contract.
+-- `memory::cost_word` meets its contract.
 -- Assumes nothing.
 use native.Mathlib.Omega.{arith}
 use denote.Ref.{now}

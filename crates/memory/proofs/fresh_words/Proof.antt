@@ -1,4 +1,4 @@
--- `routing::fresh_words` meets its contract: zeros but for n and the origin.
+-- `memory::fresh_words` meets its contract: zeros but for n and the origin.
 -- Assumes nothing.
 use borrow.Author.Needs.{needs}
 use Rattle.memory.proofs.Starting.{fresh-view}

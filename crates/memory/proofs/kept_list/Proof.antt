@@ -1,4 +1,4 @@
--- `routing::kept_list` meets its contract, test by test.
+-- `memory::kept_list` meets its contract, test by test.
 -- Assumes nothing.
 use borrow.Author.Tests.{eq-eqb, ne-eqb}
 use Rattle.memory.proofs.kept_list.Statement.{statement}

@@ -1,4 +1,4 @@
--- `routing::set_arc` meets its contract: two words stored are a change.
+-- `memory::set_arc` meets its contract: two words stored are a change.
 -- Assumes nothing.
 use borrow.Author.Needs.{needs}
 use native.Mathlib.Omega.{arith}

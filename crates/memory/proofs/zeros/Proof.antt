@@ -1,4 +1,4 @@
--- `routing::zeros` meets its contract.
+-- `memory::zeros` meets its contract.
 -- Assumes nothing.
 use Rattle.memory.proofs.Starting.{blank-words}
 use Rattle.memory.proofs.zeros.Statement.{statement}

@@ -1,9 +1,9 @@
--- `routing::fresh` meets its contract: each fault is refused.
+-- `memory::make_fresh` meets its contract: each fault is refused.
 -- Assumes nothing.
 use borrow.Author.Needs.{needs}
 use Rattle.memory.proofs.Starting.{fresh-no-node, fresh-many, fresh-no-origin, fresh-accepted}
-use Rattle.memory.proofs.fresh.Statement.{statement}
-use Rattle.memory.proofs.fresh.Tie as tie
+use Rattle.memory.proofs.make_fresh.Statement.{statement}
+use Rattle.memory.proofs.make_fresh.Tie as tie
 
 fresh-words-requires : tie.Need-fresh-words-requires
 fresh-words-requires c κs = search needs
@@ -33,8 +33,8 @@ returns-4 c =
     fresh-accepted _ _ _ (c .before .before .before .if1 .left) (c .before .before .if2 .left) (c .before .if3 .left)
     (c .fresh-words4 .ensures)
 
-pub fresh-spec : {M : Type 1} → statement M
-fresh-spec =
+pub make-fresh-spec : {M : Type 1} → statement M
+make-fresh-spec =
     tie.close
     (tie.spec
     fresh-words-requires
