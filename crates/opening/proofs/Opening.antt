@@ -19,14 +19,17 @@ use Rattle.records.specs.declared.Event.the-variants.{Header, Refusal}
 use Rattle.records.specs.declared.Record.{Record}
 use Rattle.records.specs.declared.Section.the-variants.{Start}
 use Rattle.records.proofs.Reading.{length-within, length-some}
-use Rattle.opening.specs.declared.Opened.{Opened}
 use Rattle.opening.specs.declared.Finish.{Finish}
 use Rattle.opening.specs.declared.Finish.the-variants.{Refused, Accepted}
 use Rattle.opening.specs.Answers.{Opens, finishMeans, headed}
 
 -- the same opening
-pub opens-same : (o p : Opening) (r : Opened) → o ≡ p → Opens o r → Opens p r
-opens-same o p r e h = subst (λ q. Opens q r) e h
+opens-same : {o p : Opening} {k at used : ℕ} {words : List ℕ} → o ≡ p → Opens o k at used words → Opens p k at used words
+opens-same {k = k} {at = at} {used = used} {words = words} e h = subst (λ q. Opens q k at used words) e h
+
+-- refused: the words are the fresh network of one node
+pub refused-opens : (e at : ℕ) (words : List ℕ) → view words ≡ freshNet 1 0 → Opens (refusedOpening e at) e at 0 words
+refused-opens e at words v = record { number-is = refl; place-is = refl; used-is = refl; net-is = v }
 
 -- the fresh network of one node
 pub fresh-one : (k : ℕ) (words : List ℕ) → Starts (freshOf 1 0) k words → view words ≡ freshNet 1 0
@@ -40,12 +43,17 @@ module _ (bs : List ℕ) (start n o k : ℕ) (words : List ℕ) (s : Starts (fre
   unfolding freshOf
   number-is = s .number ∙ outcome-number (freshNumber n o) (freshNet n o) (freshNet 1 0)
 
-  pub fresh-refused : k ≢ 0 → Opens (headed bs start n o) (record { number = k; place = 0; used = 0; net = words })
+  pub fresh-refused : k ≢ 0 → Opens (headed bs start n o) k 0 0 words
   unfolding freshOf headed
   fresh-refused h =
       let f : freshNumber n o ≢ 0 = λ e. h (number-is ∙ e) in
-      opens-same (refusedOpening (freshNumber n o) 0) (headed bs start n o) _ (rw (ne-eqb (freshNumber n o) 0 f))
-      (record { number = number-is; place = refl; used = refl; net = s .net ∙ refused-net (freshNumber n o) (freshNet n o) (freshNet 1 0) f })
+      opens-same {o = refusedOpening (freshNumber n o) 0} (rw (ne-eqb (freshNumber n o) 0 f))
+      (record {
+        number-is = number-is;
+        place-is = refl;
+        used-is = refl;
+        net-is = s .net ∙ refused-net (freshNumber n o) (freshNet n o) (freshNet 1 0) f;
+      })
 
   pub fresh-read : k ≡ 0 → readRecords (length bs) (view words) 0 start (drop start bs) ≡ headed bs start n o
   unfolding freshOf headed
@@ -57,23 +65,22 @@ module _ (bs : List ℕ) (start n o k : ℕ) (words : List ℕ) (s : Starts (fre
 -- ---- the others
 
 module _ (o : Opening) (f : Finish) (words : List ℕ) (is : finishMeans f (view words) ≡ o) where
-  pub read-refused : (e p : ℕ) (r : Opened) → f ≡ Refused e p → Opens (refusedOpening e p) r → Opens o r
+  pub read-refused : (e p : ℕ) {k at used : ℕ} {exit : List ℕ} → f ≡ Refused e p → Opens (refusedOpening e p) k at used exit → Opens o k at used exit
   unfolding finishMeans
-  read-refused e p r h = opens-same (refusedOpening e p) o r (ap (λ g. finishMeans g (view words)) (sym h) ∙ is)
+  read-refused e p h = opens-same (ap (λ g. finishMeans g (view words)) (sym h) ∙ is)
 
-  pub read-accepted : (u : ℕ) → f ≡ Accepted u → Opens o (record { number = 0; place = 0; used = u; net = words })
+  pub read-accepted : (u : ℕ) → f ≡ Accepted u → Opens o 0 0 u words
   unfolding finishMeans
   read-accepted u h =
-      opens-same (finishMeans (Accepted u) (view words)) o _ (ap (λ g. finishMeans g (view words)) (sym h) ∙ is)
-      (record { number = refl; place = refl; used = refl; net = refl })
+      opens-same {o = finishMeans (Accepted u) (view words)} (ap (λ g. finishMeans g (view words)) (sym h) ∙ is)
+      (record { number-is = refl; place-is = refl; used-is = refl; net-is = refl })
 
 -- ---- the whole, by the event of the first record c
 
 module _ (bs : List ℕ) (c : Record) (is : c ≡ recordOf Start 0 (drop 0 bs)) (e : Event) (h : c .event ≡ e) where
-  pub opening-of : (o : Opening) (r : Opened) → o ≡ started bs c e → Opens o r → Opens (openOf bs) r
+  pub opening-of : (o : Opening) {k at used : ℕ} {words : List ℕ} → o ≡ started bs c e → Opens o k at used words → Opens (openOf bs) k at used words
   unfolding openOf
-  opening-of o r q =
-      opens-same o (openOf bs) r (q ∙ ap (started bs c) (sym h) ∙ ap (λ (d : Record). started bs d (d .event)) is)
+  opening-of o q = opens-same (q ∙ ap (started bs c) (sym h) ∙ ap (λ (d : Record). started bs d (d .event)) is)
 
 -- a header lies within the bytes
 pub header-within : (bs : List ℕ) (c : Record) → c ≡ recordOf Start 0 (drop 0 bs) → (n o : ℕ) → c .event ≡ Header n o → (0 < c .length) × (c .length ≤ length bs)

@@ -14,14 +14,13 @@ use Rattle.opening.specs.declared.Next.{Next}
 use Rattle.opening.specs.declared.Next.the-variants.{Stopped, Finished, Onward}
 use Rattle.opening.specs.declared.Finish.{Finish}
 use Rattle.opening.specs.declared.Finish.the-variants.{Refused, Accepted}
-use Rattle.opening.specs.declared.Opened.{Opened}
 
--- the call answered what the opening o says, and words that give its network
-pub record Opens (o : Opening) (r : Opened) : Type 0 where
-  pub number : r .number ≡ o .number
-  pub place : r .place ≡ o .place
-  pub used : r .used ≡ o .used
-  pub net : view (r .net) ≡ o .net
+-- number, place, bytes used and words are what the opening o says
+pub record Opens (o : Opening) (number place used : ℕ) (words : List ℕ) : Type 0 where
+  pub number-is : number ≡ o .number
+  pub place-is : place ≡ o .place
+  pub used-is : used ≡ o .used
+  pub net-is : view words ≡ o .net
 
 -- ---- a record of an image
 

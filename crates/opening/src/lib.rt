@@ -14,7 +14,14 @@ use memory::Network;
 use records::ArcChange;
 use records::Event;
 
-// What opening an image answers: a number, 0 where it is accepted, the place of a refusal, the bytes used, and the network.
+// What opening an image into lent words answers: a number, 0 where it is accepted, the place of a refusal, and the bytes used.
+pub struct Found {
+    pub number: u8,
+    pub place: usize,
+    pub used: usize,
+}
+
+// The same with the network by value.
 pub struct Opened {
     pub number: u8,
     pub place: usize,
@@ -202,73 +209,87 @@ fn read_records(net: &mut Network, input: &[u8], start: usize) -> Finish
 }
 
 // Refused: the fresh network of one node, and 0 bytes used.
-fn refuse(number: u8, place: usize) -> Opened
-    ensures { λ r. ⌜ Opens (refusedOpening number place) r ⌝ }
+fn refuse(net: &mut Network, number: u8, place: usize) -> Found
+    ensures { λ r. ⌜ Opens (refusedOpening number place) (r .number) (r .place) (r .used) (now (net .exit)) ⌝ }
 {
-    let made = memory::fresh(1, 0);
-    let net = made.net;
-    Opened {
+    memory::make_fresh(net, 1, 0);
+    Found {
         number: number,
         place: place,
         used: 0,
-        net: net,
     }
 }
 
 // Opens an image whose first record ends at `start` and gives n and origin.
-fn open_records(input: &[u8], start: usize, nodes: u32, origin: u32) -> Opened
+fn open_records(
+    net: &mut Network,
+    input: &[u8],
+    start: usize,
+    nodes: u32,
+    origin: u32,
+) -> Found
     requires { ⌜ 0 < start ⌝ }
     requires { ⌜ start ≤ length (now input) ⌝ }
-    ensures { λ r. ⌜ Opens (headed (now (input .entry)) start nodes origin) r ⌝ }
+    ensures { λ r. ⌜ Opens (headed (now (input .entry)) start nodes origin) (r .number) (r .place) (r .used) (now (net .exit)) ⌝ }
 {
-    let made = memory::fresh(nodes, origin);
-    let fault = made.number;
-    let mut net = made.net;
+    let fault = memory::make_fresh(net, nodes, origin);
     if fault != 0 {
-        return Opened {
+        return Found {
             number: fault,
             place: 0,
             used: 0,
-            net: net,
         };
     }
-    let end = read_records(&mut net, input, start);
+    let end = read_records(net, input, start);
     match end {
-        Finish::Refused { number, place } => refuse(number, place),
-        Finish::Accepted { used } => Opened {
+        Finish::Refused { number, place } => refuse(net, number, place),
+        Finish::Accepted { used } => Found {
             number: 0,
             place: 0,
             used: used,
-            net: net,
         },
     }
 }
 
-// Opens an image: the network and the bytes used; or number and place, the fresh network of one node and 0 used.
-pub fn open_image(input: &[u8]) -> Opened
-    ensures { λ r. ⌜ Opens (openOf (now (input .entry))) r ⌝ }
+// Opens an image into lent words: they become its network; or, refused with number and place, the fresh network of one node, with 0 used.
+pub fn open_into(net: &mut Network, input: &[u8]) -> Found
+    ensures { λ r. ⌜ Opens (openOf (now (input .entry))) (r .number) (r .place) (r .used) (now (net .exit)) ⌝ }
 {
     let first = reading::start_record(input);
     let event = first.event;
     let start = first.length;
     match event {
-        Event::Header { nodes, origin } => open_records(input, start, nodes, origin),
-        Event::Refusal { number, place } => refuse(number, place),
-        Event::End => refuse(2, 0),
-        Event::Change(_) => refuse(2, 0),
+        Event::Header { nodes, origin } => open_records(net, input, start, nodes, origin),
+        Event::Refusal { number, place } => refuse(net, number, place),
+        Event::End => refuse(net, 2, 0),
+        Event::Change(_) => refuse(net, 2, 0),
         Event::Row {
             node: _,
             label: _,
             predecessor: _,
             list: _,
-        } => refuse(2, 0),
+        } => refuse(net, 2, 0),
         Event::Report {
             sender: _,
             receiver: _,
             label: _,
             list: _,
-        } => refuse(2, 0),
-        Event::Round => refuse(2, 0),
-        Event::FullRound => refuse(2, 0),
+        } => refuse(net, 2, 0),
+        Event::Round => refuse(net, 2, 0),
+        Event::FullRound => refuse(net, 2, 0),
+    }
+}
+
+// Opens an image, and answers the network by value.
+pub fn open_image(input: &[u8]) -> Opened
+    ensures { λ r. ⌜ Opens (openOf (now (input .entry))) (r .number) (r .place) (r .used) (r .net) ⌝ }
+{
+    let mut net = [0u32; memory::WORDS];
+    let found = open_into(&mut net, input);
+    Opened {
+        number: found.number,
+        place: found.place,
+        used: found.used,
+        net: net,
     }
 }

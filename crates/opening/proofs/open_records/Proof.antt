@@ -7,14 +7,11 @@ use borrow.Author.Needs.{needs}
 use Rattle.opening.proofs.open_records.Statement.{statement}
 use Rattle.opening.proofs.open_records.Tie as tie
 
-fresh-requires : tie.Need-fresh-requires
-fresh-requires c κs = search needs
+make-fresh-requires : tie.Need-make-fresh-requires
+make-fresh-requires c κs = search needs
 
 returns : tie.Need-returns
-returns c =
-    let a = c .before .before .before .before .args in
-    let f = c .before .before .fresh in
-    fresh-refused (now (a .input)) (a .start) (a .nodes) (a .origin) (f .result .number) (f .result .net) (f .ensures) (c .if1 .taken)
+returns c = fresh-refused _ _ _ _ _ _ (c .before .make-fresh .ensures) (c .if1 .taken)
 
 read-records-requires : tie.Need-read-records-requires
 read-records-requires c κs = search needs
@@ -30,23 +27,27 @@ enum-known-end-2 c = search needs
 
 returns-2 : tie.Need-returns-2
 returns-2 c =
-    let a = c .before .before .before .before .before .before .before .before .before .before .args in
-    let f = c .before .before .before .before .before .before .before .before .fresh in
-    let d = c .before .before .before .before .read-records in
-    read-refused _ _ _ (d .ensures ∙ fresh-read (now (a .input)) (a .start) (a .nodes) (a .origin) (f .result .number) (f .result .net) (f .ensures) (c .before .before .before .before .before .before .if1 .left)) _ _ _ (c .before .before .end .given .1) (c .refuse .ensures)
+    let a = c .before .before .before .before .before .before .before .before .before .before .before .args in
+    let f = c .before .before .before .before .before .before .before .before .make-fresh in
+    let d = c .before .before .before .before .before .read-records in
+    let n = c .before .before .before .before .before .before .before .if1 .left in
+    read-refused _ _ _ (d .ensures ∙ fresh-read (now (a .input)) (a .start) (a .nodes) (a .origin) _ _ (f .ensures) n) _ _
+    (c .before .before .before .end .given .1) (c .refuse .ensures)
 
 returns-3 : tie.Need-returns-3
 returns-3 c =
     let a = c .before .before .before .before .before .before .before .before .before .args in
-    let f = c .before .before .before .before .before .before .before .fresh in
+    let f = c .before .before .before .before .before .before .make-fresh in
     let d = c .before .before .before .read-records in
-    read-accepted _ _ _ (d .ensures ∙ fresh-read (now (a .input)) (a .start) (a .nodes) (a .origin) (f .result .number) (f .result .net) (f .ensures) (c .before .before .before .before .before .if1 .left)) _ (c .before .end2 .given .1)
+    let n = c .before .before .before .before .before .if1 .left in
+    read-accepted _ _ _ (d .ensures ∙ fresh-read (now (a .input)) (a .start) (a .nodes) (a .origin) _ _ (f .ensures) n) _
+    (c .before .end2 .given .1)
 
 pub open-records-spec : {M : Type 1} → statement M
 open-records-spec =
     tie.close
     (tie.spec
-    fresh-requires
+    make-fresh-requires
     returns
     read-records-requires
     enum-known-end
