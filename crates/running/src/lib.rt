@@ -177,24 +177,21 @@ pub struct Ran {
 pub fn run(input: &[u8]) -> Ran
     ensures { λ r. ⌜ Runs (runOf (now (input .entry))) r ⌝ }
 {
-    let opened = opening::open_image(input);
-    let number = opened.number;
-    let place = opened.place;
-    let used = opened.used;
-    let mut net = opened.net;
-    if number != 0 {
+    let mut net = [0u32; memory::WORDS];
+    let found = opening::open_into(&mut net, input);
+    if found.number != 0 {
         return Ran {
-            number,
-            place,
+            number: found.number,
+            place: found.place,
             rounds: 0,
-            net,
+            net: net,
         };
     }
-    let end = run_events(&mut net, input, used);
+    let end = run_events(&mut net, input, found.used);
     Ran {
         number: end.number,
         place: end.place,
         rounds: end.rounds,
-        net,
+        net: net,
     }
 }
