@@ -5,6 +5,13 @@ ghost use Rattle.network.specs.Round.{roundOf, fullRoundOf};
 ghost use Rattle.network.specs.Change.{changeOf, gradeOf};
 ghost use Rattle.memory.specs.Layout.{view};
 ghost use Rattle.memory.specs.Answers.{Leaves};
+ghost use lib.ListN.{getD};
+ghost use Rattle.network.specs.Route.{routeOf};
+ghost use Rattle.records.specs.Image.{imageOf};
+ghost use Rattle.records.specs.Opening.{openOf};
+ghost use Rattle.records.specs.Running.{runOf};
+ghost use Rattle.opening.specs.Answers.{Opens};
+ghost use Rattle.bench.specs.Handed.{RunsTo, WritesTo};
 
 #[no_mangle]
 pub extern "C" fn bench_change(net: &mut Network, sender: u32, receiver: u32, cost: u32) -> u8
@@ -36,38 +43,48 @@ pub extern "C" fn bench_full_round(net: &mut Network) -> u8
 
 // Opening: number, place and bytes used in answer, and the network.
 #[no_mangle]
-pub extern "C" fn bench_open(input: &[u8], answer: &mut [u64; 3], net: &mut Network) {
-    let opened = opening::open_image(input);
-    let found = opened.net;
-    answer[0] = opened.number as u64;
-    answer[1] = opened.place as u64;
-    answer[2] = opened.used as u64;
-    *net = found;
+pub extern "C" fn bench_open(input: &[u8], answer: &mut [u64; 3], net: &mut Network)
+    ensures { λ _. ⌜ Opens (openOf (now (input .entry))) (getD (now (answer .exit)) 0 0) (getD (now (answer .exit)) 1 0) (getD (now (answer .exit)) 2 0) (now (net .exit)) ⌝ }
+{
+    let found = opening::open_into(net, input);
+    let all: &mut [u64] = answer;
+    all[0] = found.number as u64;
+    all[1] = found.place as u64;
+    all[2] = found.used as u64;
 }
 
 // A run: number, place and accepted rounds in answer, and the network.
 #[no_mangle]
-pub extern "C" fn bench_run(input: &[u8], answer: &mut [u64; 3], net: &mut Network) {
+pub extern "C" fn bench_run(input: &[u8], answer: &mut [u64; 3], net: &mut Network)
+    ensures { λ _. ⌜ RunsTo (runOf (now (input .entry))) (now (answer .exit)) (now (net .exit)) ⌝ }
+{
     let ran = running::run(input);
     let found = ran.net;
-    answer[0] = ran.number as u64;
-    answer[1] = ran.place as u64;
-    answer[2] = ran.rounds as u64;
+    let all: &mut [u64] = answer;
+    all[0] = ran.number as u64;
+    all[1] = ran.place as u64;
+    all[2] = ran.rounds as u64;
     *net = found;
 }
 
 // Image writing: number and bytes written in answer.
 #[no_mangle]
-pub extern "C" fn bench_image(net: &Network, out: &mut [u8], answer: &mut [u64; 2]) {
+pub extern "C" fn bench_image(net: &Network, out: &mut [u8], answer: &mut [u64; 2])
+    ensures { λ _. ⌜ WritesTo (imageOf (view (now (net .entry))) (now (out .entry))) (now (answer .exit)) (now (out .exit)) ⌝ }
+{
     let written = image::write_image(net, out);
-    answer[0] = written.number as u64;
-    answer[1] = written.length as u64;
+    let all: &mut [u64] = answer;
+    all[0] = written.number as u64;
+    all[1] = written.length as u64;
 }
 
 // A route: number and bytes written in answer.
 #[no_mangle]
-pub extern "C" fn bench_route(net: &Network, node: u32, out: &mut [u8], answer: &mut [u64; 2]) {
+pub extern "C" fn bench_route(net: &Network, node: u32, out: &mut [u8], answer: &mut [u64; 2])
+    ensures { λ _. ⌜ WritesTo (routeOf (view (now (net .entry))) node (now (out .entry))) (now (answer .exit)) (now (out .exit)) ⌝ }
+{
     let written = route::route(net, node, out);
-    answer[0] = written.number as u64;
-    answer[1] = written.length as u64;
+    let all: &mut [u64] = answer;
+    all[0] = written.number as u64;
+    all[1] = written.length as u64;
 }

@@ -221,13 +221,7 @@ fn refuse(net: &mut Network, number: u8, place: usize) -> Found
 }
 
 // Opens an image whose first record ends at `start` and gives n and origin.
-fn open_records(
-    net: &mut Network,
-    input: &[u8],
-    start: usize,
-    nodes: u32,
-    origin: u32,
-) -> Found
+fn open_records(net: &mut Network, input: &[u8], start: usize, nodes: u32, origin: u32) -> Found
     requires { ⌜ 0 < start ⌝ }
     requires { ⌜ start ≤ length (now input) ⌝ }
     ensures { λ r. ⌜ Opens (headed (now (input .entry)) start nodes origin) (r .number) (r .place) (r .used) (now (net .exit)) ⌝ }

@@ -1,0 +1,35 @@
+-- `bench::bench_open` meets its contract: the answer in three words.
+-- Assumes nothing.
+use borrow.Author.Needs.{needs}
+use native.Mathlib.Omega.{arith}
+use mathlib.Core.Path.{_∙_}
+use lib.ListN.{length-set}
+use denote.Ref.{now}
+use Rattle.bench.proofs.Handing.{three-words}
+use Rattle.bench.proofs.bench_open.Statement.{statement}
+use Rattle.bench.proofs.bench_open.Tie as tie
+
+open-into-requires : tie.Need-open-into-requires
+open-into-requires c κs = search needs
+
+cast-all : tie.Need-cast-all
+cast-all c = search needs
+
+slice-write-all : tie.Need-slice-write-all
+slice-write-all c = search needs
+
+slice-write-all-2 : tie.Need-slice-write-all-2
+slice-write-all-2 c = simp length-set (omega arith)
+
+slice-write-all-3 : tie.Need-slice-write-all-3
+slice-write-all-3 c = simp length-set (omega arith)
+
+returns : tie.Need-returns
+returns c =
+    let a = c .before .before .before .before .before .args in
+    let o = c .before .before .open-into .ensures in
+    let t = three-words (now (a .answer)) _ _ _ (omega arith) in
+    record { number-is = t .0 ∙ o .number-is; place-is = t .1 ∙ o .place-is; used-is = t .2 ∙ o .used-is; net-is = o .net-is }
+
+pub bench-open-spec : {M : Type 1} → statement M
+bench-open-spec = tie.close (tie.spec open-into-requires cast-all slice-write-all slice-write-all-2 slice-write-all-3 returns)
