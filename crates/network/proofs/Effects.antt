@@ -38,6 +38,14 @@ pub accepted-net : (k : ℕ) (next x : Net) → k ≡ 0 → outcome k next x .ne
 unfolding outcome
 accepted-net k next x e = rw (eq-eqb k 0 e)
 
+-- a call that changes nothing leaves the network, whatever its number
+pub outcome-same : (k : ℕ) (x : Net) → outcome k x x .net ≡ x
+outcome-same k x = go (eq-or-ne k 0)
+  where
+    go : (k ≡ 0) ⊎ (k ≢ 0) → outcome k x x .net ≡ x
+    go (inl e) = accepted-net k x x e
+    go (inr n) = refused-net k x x n
+
 -- every call answers an outcome
 pub fresh-outcome : (n origin : ℕ) → freshOf n origin ≡ outcome (freshNumber n origin) (freshNet n origin) (freshNet 1 0)
 unfolding freshOf

@@ -46,10 +46,7 @@ num32-of x h =
     let q : x / 256 % 256 * 256 + x % 256 ≡ x % 65536 = omega arith in
     omega arith
 
--- ---- numbers of bytes are small
+-- ---- a number of two bytes is small
 
 pub num16-small : (a b : ℕ) → a < 256 → b < 256 → a * 256 + b < 65536
 num16-small a b ha hb = omega arith
-
-pub num32-small : (a b c d : ℕ) → a < 256 → b < 256 → c < 256 → d < 256 → (a * 256 + b) * 65536 + (c * 256 + d) < 4294967296
-num32-small a b c d ha hb hc hd = omega arith

@@ -1,13 +1,13 @@
--- What opening answers: a refusal with the fresh network of one node, or a network within limits.
+-- What opening answers: a refusal with the fresh network of one node, or a network within limits; and the bytes used.
 -- Assumes nothing.
 use mathlib.Core.Path.{_≡_, refl, ap}
-use mathlib.Core.Bool.{cond}
+use mathlib.Core.Bool.{Bool, true, false, cond}
 use mathlib.Core.List.{List}
 use mathlib.Core.Logic.{_⊎_, inl, inr, _≢_}
-use Prim.Native.Nat.{ℕ, zero, suc, _+_, _≤_}
+use Prim.Native.Nat.{ℕ, zero, suc, _+_, _<_, _≤_}
 use native.Mathlib.Omega.{arith}
 use lib.Dec.{eqb}
-use lib.ListN.{length, drop}
+use lib.ListN.{length, drop, length-drop}
 use borrow.Author.Tests.{eq-eqb, ne-eqb}
 use Rattle.ancestors.proofs.Cases.{eq-or-ne}
 use Rattle.network.specs.Network.{Net, Within, freshNet, freshNumber}
@@ -15,9 +15,12 @@ use Rattle.network.proofs.Accepting.{fresh-free}
 use Rattle.network.proofs.FaultLaws.{size-free}
 use Rattle.records.specs.Numbers.{Bytes}
 use Rattle.records.specs.Records.{recordOf}
-use Rattle.records.specs.Opening.{Step, stop, finish, onward, placed, Opening, refusedOpening, acceptedOpening, afterStep, readRecords, openOf}
+use Rattle.records.specs.Opening.{Step, stop, finish, onward, placed, Opening, refusedOpening, acceptedOpening, afterStep, readRecords, started, openOf}
+use Rattle.records.specs.declared.Event.{Event}
+use Rattle.records.specs.declared.Event.the-variants.{End, Header, Change, Row, Report, Round, FullRound, Refusal}
 use Rattle.records.specs.declared.Record.{Record}
 use Rattle.records.specs.declared.Section.the-variants.{Start, Image}
+use Rattle.records.proofs.Reading.{by-outcome, length-within}
 use Rattle.records.proofs.ImageSteps.{stop-at}
 use Rattle.records.proofs.Parsing.{StartShown, a-header, a-stop, start-shown}
 use Rattle.records.proofs.Acceptance.{fresh-net, started-header, started-stop, acceptance}
@@ -61,10 +64,53 @@ open-within bs by = go (open-is bs)
         rw (ap (λ (o : Opening). o .net) p) (fresh-net 1 0 (fresh-free 1 0 (size-free 1 0 (omega arith) (omega arith) (omega arith))))
     go (accepted x used p) = rw (ap (λ (o : Opening). o .net) p) (acceptance bs by x used .0 p .within)
 
--- and the bytes used are bytes of the input
-pub open-used : (bs : List ℕ) → Bytes bs → openOf bs .used ≤ length bs
-open-used bs by = go (open-is bs)
+-- ---- the bytes used are bytes of the input
+
+-- the end of an image is a byte of the input
+end-inside : (x : Net) (next at : ℕ) (s : List ℕ) → placed x next (recordOf Image at s .event) ≡ finish → 0 < length s
+unfolding placed
+end-inside x next at s =
+    by-outcome (λ (r : Record). placed x next (r .event) ≡ finish → 0 < length s) Image at s (λ q. clash q) (λ q. clash q)
+    (λ k b e a h q. let l = ap length e in omega arith)
   where
-    go : OpenIs (openOf bs) → openOf bs .used ≤ length bs
-    go (refused e at n p) = rw (ap (λ (o : Opening). o .used) p) (omega arith)
-    go (accepted x used p) = rw (ap (λ (o : Opening). o .used) p) (acceptance bs by x used .0 p .room)
+    clash : {e : ℕ} → stop e ≡ finish → 0 < length s
+    clash q = let z : _≡_ {A = ℕ} 0 1 = cc in absurd (omega arith)
+
+-- after a record, if the records after it end inside the input
+used-after : (at : ℕ) (s : List ℕ) (go : Net → ℕ → Opening) (x : Net) → ((z : Net) (k : ℕ) → go z k .used ≤ at + length s) → (t : Step)
+    → (t ≡ finish → 0 < length s) → afterStep go x at t .used ≤ at + length s
+used-after at s go x h (stop e) f = omega arith
+used-after at s go x h finish f = omega (arith, f refl)
+used-after at s go x h (onward z k) f = h z k
+
+-- the records of an image end inside the input
+used-records : (k : ℕ) (x : Net) (next at : ℕ) (s : List ℕ) → readRecords k x next at s .used ≤ at + length s
+unfolding readRecords
+used-records zero x next at s = omega arith
+used-records (suc k) x next at s =
+    let r = recordOf Image at s in
+    used-after at s (λ z above. readRecords k z above (at + r .length) (drop (r .length) s)) x
+    (λ z above. omega (arith, used-records k z above (at + r .length) (drop (r .length) s), length-drop (r .length) s, length-within Image at s))
+    (placed x next (r .event)) (end-inside x next at s)
+
+-- opening uses no more bytes than there are
+pub open-used : (s : List ℕ) → openOf s .used ≤ length s
+unfolding openOf started
+open-used s = go (recordOf Start 0 s) (recordOf Start 0 s .event) (length-within Start 0 s)
+  where
+    chosen : (t : Bool) (x y : Opening) → x .used ≤ length s → y .used ≤ length s → cond t x y .used ≤ length s
+    chosen true x y f g = f
+    chosen false x y f g = g
+
+    go : (r : Record) (e : Event) → r .length ≤ length s → started s r e .used ≤ length s
+    go r (Header n o) h =
+        chosen (eqb (freshNumber n o) 0) _ _
+        (omega (arith, used-records (length s) (freshNet n o) 0 (r .length) (drop (r .length) s), length-drop (r .length) s))
+        (omega arith)
+    go r (Refusal e p) h = omega arith
+    go r End h = omega arith
+    go r (Change a) h = omega arith
+    go r (Row y d p l) h = omega arith
+    go r (Report t q d l) h = omega arith
+    go r Round h = omega arith
+    go r FullRound h = omega arith

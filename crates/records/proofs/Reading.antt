@@ -156,11 +156,6 @@ expected z at bs e q =
 -- ---- for every section
 
 -- a refusal's place and number
-pub refused-at : (z : Section) (at : ℕ) (bs : List ℕ) (e p : ℕ) → recordOf z at bs .event ≡ Refusal e p → RefusedAt at e p
-refused-at Start at bs e p q = expected Start at bs (Refusal e p) q
-refused-at Image at bs e p q = expected Image at bs (Refusal e p) q
-refused-at Events at bs e p q = expected Events at bs (Refusal e p) q
-
 -- a round's record has 129 bytes
 pub round-length : (z : Section) (at : ℕ) (bs : List ℕ) → recordOf z at bs .event ≡ Round → recordOf z at bs .length ≡ 129
 round-length Start at bs q = absurd (expected Start at bs Round q)

@@ -1,31 +1,29 @@
 -- What each event does, one law to a case, and the rounds that it counts for.
 -- Assumes nothing.
 use mathlib.Core.Path.{_≡_, refl, sym, ap, subst, _∙_}
-use mathlib.Core.Logic.{_⊎_, inl, inr, _≢_}
 use mathlib.Core.List.{List, []}
-use Prim.Native.Nat.{ℕ, _≤_}
+use Prim.Native.Nat.{ℕ, _<_, _≤_}
 use native.Mathlib.Omega.{arith}
-use Rattle.ancestors.proofs.Cases.{eq-or-ne}
 use Rattle.network.specs.Network.{Net, outcome}
 use Rattle.network.specs.Change.{changeOf}
 use Rattle.network.specs.Round.{roundOf, fullRoundOf}
-use Rattle.network.proofs.Effects.{outcome-number, refused-net, accepted-net}
+use Rattle.network.proofs.Effects.{outcome-number, outcome-same}
 use Rattle.memory.specs.Layout.{view}
 use Rattle.memory.specs.Answers.{Leaves}
 use Rattle.records.specs.Numbers.{words}
+use Rattle.records.specs.Records.{recordOf}
 use Rattle.records.specs.Running.{eventDone, roundsIn}
 use Rattle.records.specs.declared.ArcChange.{ArcChange}
 use Rattle.records.specs.declared.ArcChange.the-variants.{Set, Removed}
 use Rattle.records.specs.declared.Event.{Event}
 use Rattle.records.specs.declared.Event.the-variants.{End, Header, Change, Row, Report, Round, FullRound, Refusal}
+use Rattle.records.specs.declared.Record.{Record}
+use Rattle.records.specs.declared.Section.the-variants.{Events}
+use Rattle.records.proofs.Reading.{by-outcome}
 
 -- a call that answers k and leaves the words
 still : (k : ℕ) (xs : List ℕ) → Leaves (outcome k (view xs) (view xs)) k xs xs
-still k xs = record { number = sym (outcome-number k (view xs) (view xs)); net = sym (go (eq-or-ne k 0)); same = λ z. refl }
-  where
-    go : (k ≡ 0) ⊎ (k ≢ 0) → outcome k (view xs) (view xs) .net ≡ view xs
-    go (inl e) = accepted-net k (view xs) (view xs) e
-    go (inr e) = refused-net k (view xs) (view xs) e
+still k xs = record { number = sym (outcome-number k (view xs) (view xs)); net = sym (outcome-same k (view xs)); same = λ z. refl }
 
 -- ---- a change: a set arc, and a removed one
 
@@ -124,3 +122,9 @@ pub marks-round : (b : List ℕ) {xs ms ys : List ℕ} {k : ℕ} → ms ≡ word
     → Leaves (eventDone (view xs) b Round) k xs ys
 unfolding eventDone
 marks-round b {xs} {ms} {ys} {k} q h = subst (λ w. Leaves (roundOf (view xs) w) k xs ys) q h
+
+-- an accepted event has at least its kind byte
+pub accepted-long : (x : Net) (d : List ℕ) (at : ℕ) (s : List ℕ) → eventDone x d (recordOf Events at s .event) .number ≡ 0 → 0 < recordOf Events at s .length
+accepted-long x d at s =
+    by-outcome (λ (r : Record). eventDone x d (r .event) .number ≡ 0 → 0 < r .length) Events at s
+    (λ q. omega (arith, refusal-number x d 1 at, q)) (λ q. omega (arith, refusal-number x d 2 at, q)) (λ k b e a h q. omega arith)

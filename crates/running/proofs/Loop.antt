@@ -17,8 +17,7 @@ use Rattle.records.specs.declared.Record.{Record}
 use Rattle.records.specs.declared.Section.the-variants.{Events}
 use Rattle.records.proofs.Reading.{length-within, round-within, round-body}
 use Rattle.running.specs.Inner.{marksAt, Inside, eventsFrom, Finishes}
-use Rattle.running.proofs.Events.{Does, same-body, one-round}
-use Rattle.running.proofs.Lengths.{accepted-long}
+use Rattle.running.proofs.Events.{Does, same-body, one-round, accepted-long}
 
 -- the rest of the events of s, from the place `at` on, gives the whole
 pub record Rest (s : List ℕ) (o : Running) (x : Net) (rounds at : ℕ) : Type 0 where

@@ -10,12 +10,12 @@ use borrow.Author.Tests.{eq-eqb, ne-eqb}
 use Rattle.memory.specs.Layout.{view}
 use Rattle.records.specs.Opening.{openOf}
 use Rattle.records.specs.Running.{Running, runFrom, runOf}
+use Rattle.records.proofs.Opened.{open-used}
 use Rattle.opening.specs.Answers.{Opens}
 use Rattle.running.specs.Answers.{Runs}
 use Rattle.running.specs.Inner.{eventsFrom, Finishes}
 use Rattle.running.specs.declared.Finish.{Finish}
 use Rattle.running.specs.declared.Ran.{Ran}
-use Rattle.running.proofs.Lengths.{used-inside}
 
 -- equal runs are answered alike
 runs-same : (o p : Running) (r : Ran) → o ≡ p → Runs o r → Runs p r
@@ -24,7 +24,7 @@ runs-same o p r e h = subst (λ (t : Running). Runs t r) e h
 module _ (s : List ℕ) (number place used : ℕ) (words : List ℕ) (opens : Opens (openOf s) number place used words) where
   -- the events begin inside the input
   pub events-inside : used ≤ length s
-  events-inside = omega (arith, opens .used-is, used-inside s)
+  events-inside = omega (arith, opens .used-is, open-used s)
 
   -- with its image refused a run answers as opening does, with 0 rounds
   pub image-refused : number ≢ 0 → Runs (runOf s) (record { number = number; place = place; rounds = 0; net = words })

@@ -5,14 +5,13 @@ use mathlib.Core.Bool.{Bool, true, false, _&&_}
 use mathlib.Core.List.{List, [], _∷_}
 use mathlib.Core.Logic.{_⊎_, inl, inr}
 use Prim.Native.Nat.{ℕ}
-use lib.Dec.{eqb}
 use borrow.Author.Tests.{eqb-true, eqb-false, eq-eqb}
-use Rattle.ancestors.proofs.Cases.{bool-cases, cond-by}
+use Rattle.ancestors.proofs.Cases.{bool-cases}
 use Rattle.network.specs.Network.{Net, Outcome, outcome, Within}
 use Rattle.network.specs.Round.{Marks, marked, everyArc, roundNumber, round as roundWith}
 use Rattle.network.specs.Change.{changed, changeNumber, gradeCost, gradeNumber}
 use Rattle.network.specs.Route.{routeOf}
-use Rattle.network.proofs.Effects.{outcome-number, refused-net, accepted-net, change-outcome, grade-outcome, round-outcome, full-round-outcome, round-effect, change-effect}
+use Rattle.network.proofs.Effects.{outcome-number, outcome-same, refused-net, accepted-net, change-outcome, grade-outcome, round-outcome, full-round-outcome, round-effect, change-effect}
 use Rattle.network.proofs.Keeping.{change-within, grade-within, round-within, full-round-within}
 use Rattle.records.specs.Image.{imageOf}
 use Rattle.settling.specs.Calls.{Call, change, grade, round, fullRound, route, writeImage, reads, called, accepted, after, alters, marksThen}
@@ -38,7 +37,7 @@ next x (writeImage out) = x
 -- a reading call answers an outcome too
 reads-outcome : (x : Net) (k : ℕ) → reads x k ≡ outcome k x x
 unfolding outcome
-reads-outcome x k = ap (λ (z : Net). record { number = k; net = z }) (sym (cond-by (λ (z : Net). z ≡ x) (eqb k 0) x x (λ _. refl) (λ _. refl)))
+reads-outcome x k = ap (λ (z : Net). record { number = k; net = z }) (sym (outcome-same k x))
 
 -- every call answers an outcome
 called-outcome : (x : Net) (c : Call) → called x c ≡ outcome (number x c) (next x c) x

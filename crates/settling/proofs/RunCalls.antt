@@ -11,7 +11,7 @@ use lib.ListN.{length, drop}
 use borrow.Author.Tests.{eq-eqb, ne-eqb}
 use Rattle.ancestors.proofs.Cases.{eq-or-ne}
 use Rattle.network.specs.Network.{Net, Outcome, outcome, Within}
-use Rattle.network.proofs.Effects.{accepted-net, refused-net}
+use Rattle.network.proofs.Effects.{outcome-same}
 use Rattle.network.specs.Round.{Marks, marked}
 use Rattle.records.specs.Numbers.{Bytes, words}
 use Rattle.records.specs.Records.{bodyOf, recordOf}
@@ -51,14 +51,6 @@ event-is x b (E.Header n o) = a-refusal 2 refl refl
 event-is x b (E.Row y d p l) = a-refusal 2 refl refl
 event-is x b (E.Report s r d l) = a-refusal 2 refl refl
 
--- whatever its number, such an outcome leaves x
-left : (k : ℕ) (x : Net) → outcome k x x .net ≡ x
-left k x = go (eq-or-ne k 0)
-  where
-    go : (k ≡ 0) ⊎ (k ≢ 0) → outcome k x x .net ≡ x
-    go (inl e) = accepted-net k x x e
-    go (inr n) = refused-net k x x n
-
 -- a refused event leaves x
 event-refused : (x : Net) (b : List ℕ) (e : Event) → eventDone x b e .number ≢ 0 → eventDone x b e .net ≡ x
 unfolding accepted
@@ -68,7 +60,7 @@ event-refused x b e n = go (event-is x b e)
     go (a-call c p q) =
         ap (λ (o : Outcome). o .net) p ∙
         called-refused x c (ne-eqb (called x c .number) 0 (λ z. n (ap (λ (o : Outcome). o .number) p ∙ z)))
-    go (a-refusal k p q) = ap (λ (o : Outcome). o .net) p ∙ left k x
+    go (a-refusal k p q) = ap (λ (o : Outcome). o .net) p ∙ outcome-same k x
 
 -- the marks of a call are put before the others
 marks-long : (x : Net) (c : Call) (ms : List Marks) → length (marksThen x c ms) ≡ length (marksThen x c []) + length ms
@@ -100,7 +92,7 @@ event-then x n b e r z ih = go (event-is x b e)
           counted = omega (arith, ih .counted, ap (λ (y : Net). length (rounds y (ih .calls))) net, one, more);
         }
     go (a-refusal k p q) =
-        let net : eventDone x b e .net ≡ x = ap (λ (o : Outcome). o .net) p ∙ left k x in
+        let net : eventDone x b e .net ≡ x = ap (λ (o : Outcome). o .net) p ∙ outcome-same k x in
         record {
           calls = ih .calls;
           net = ih .net ∙ ap (λ (y : Net). after y (ih .calls)) net;
