@@ -1,26 +1,24 @@
 -- Laws of a record read, by its kind: a missing kind byte, a kind that is not allowed, a short body, a whole one.
 -- Assumes nothing.
 use mathlib.Core.Path.{_≡_, refl}
-use mathlib.Core.Bool.{true, false, cond, _&&_}
-use mathlib.Core.Logic.{_⊎_, inl, inr, _≢_}
+use mathlib.Core.Bool.{true, false, cond}
+use mathlib.Core.Logic.{_≢_}
 use mathlib.Core.List.{List}
-use Prim.Native.Nat.{ℕ, suc, _+_, _-_, _*_, _<_, _≤_}
+use Prim.Native.Nat.{ℕ, zero, suc, _+_, _-_, _*_, _<_, _≤_}
 use native.Mathlib.Omega.{arith}
 use native.Mathlib.Numerals.{add-one}
-use lib.Dec.{ltb}
 use lib.ListN.{length, getD, take, drop, length-drop, drop-of-length-le}
 use lib.Seq.{drop-cons}
 use borrow.Author.Tests.{lt-ltb, le-ltb, eq-eqb, ne-eqb}
-use Rattle.ancestors.proofs.Cases.{le-or-lt}
 use Rattle.network.specs.Faults.{gradeFault}
 use Rattle.network.specs.Change.{gradeCost}
 use Rattle.records.specs.Records.{bodyLength, bodyOf, arcChange, gradeChange, eventOf, allowed, refusedRecord, bodied, recordOf}
 use Rattle.records.specs.Numbers.{num8, num16, num32}
+use Rattle.records.proofs.Reading.{never-allowed}
 use Rattle.records.specs.declared.ArcChange.the-variants.{Set, Removed}
 use Rattle.records.specs.declared.Event.{Event}
 use Rattle.records.specs.declared.Event.the-variants.{End, Header, Change, Row, Report, Round, FullRound, Refusal}
 use Rattle.records.specs.declared.Section.{Section}
-use Rattle.records.specs.declared.Section.the-variants.{Start, Image, Events}
 
 -- ---- numbers
 
@@ -99,40 +97,19 @@ grade-kind = record { long = refl; reads = λ at b. refl }
 
 -- ---- every other value
 
--- first, any other than 1
-pub start-others : (k : ℕ) → k ≢ 1 → allowed Start k ≡ false
-unfolding allowed
-start-others k n = ne-eqb k 1 n
+-- k is none of the numbers below n
+abbrev pub Other : ℕ → ℕ → Type 0
+Other k zero = Unit
+Other k (suc n) = Other k n × (k ≢ n)
 
--- inside an image, any other than 0 and 2 to 4
-pub image-others : (k : ℕ) → k ≢ 0 → k ≢ 2 → k ≢ 3 → k ≢ 4 → allowed Image k ≡ false
-unfolding allowed
-image-others k a b c d = rw (ne-eqb k 0 a) (go (le-or-lt k 1))
-  where
-    go : (k ≤ 1) ⊎ (1 < k) → (ltb 1 k && ltb k 5) ≡ false
-    go (inl h) = rw (le-ltb 1 k h)
-    go (inr h) = rw (lt-ltb 1 k h, le-ltb k 5 (above-four h))
-      where
-        above-two : 1 < k → 3 ≤ k
-        above-two h = omega (arith, b)
+-- so it is at least n
+from-others : (n k : ℕ) → Other k n → n ≤ k
+from-others zero k o = omega arith
+from-others (suc n) k o = let h = from-others n k (o .0) in omega (arith, o .1)
 
-        above-four : 1 < k → 5 ≤ k
-        above-four h = let g = above-two h in omega (arith, c, d)
-
--- as events, any other than 2 and 5 to 7
-pub event-others : (k : ℕ) → k ≢ 2 → k ≢ 5 → k ≢ 6 → k ≢ 7 → allowed Events k ≡ false
-unfolding allowed
-event-others k a b c d = rw (ne-eqb k 2 a) (go (le-or-lt k 4))
-  where
-    go : (k ≤ 4) ⊎ (4 < k) → (ltb 4 k && ltb k 8) ≡ false
-    go (inl h) = rw (le-ltb 4 k h)
-    go (inr h) = rw (lt-ltb 4 k h, le-ltb k 8 (above-seven h))
-      where
-        above-five : 4 < k → 6 ≤ k
-        above-five h = omega (arith, b)
-
-        above-seven : 4 < k → 8 ≤ k
-        above-seven h = let g = above-five h in omega (arith, c, d)
+-- and from 8 on no kind is allowed
+pub other-kinds : (z : Section) (k : ℕ) → Other k 8 → allowed z k ≡ false
+other-kinds z k o = never-allowed z k (from-others 8 k o)
 
 -- ---- the record at the place `at` of the bytes s, in the section z
 module _ (s : List ℕ) (at : ℕ) (z : Section) where

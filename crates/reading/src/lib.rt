@@ -146,6 +146,7 @@ pub fn start_record(input: &[u8]) -> Record
     let kind = input[0];
     let left = input.len() - 1;
     match kind {
+        0 => refused(2, 0),
         1 => {
             if left < 2 {
                 return refused(1, 0);
@@ -155,6 +156,12 @@ pub fn start_record(input: &[u8]) -> Record
                 length: 3,
             }
         }
+        2 => refused(2, 0),
+        3 => refused(2, 0),
+        4 => refused(2, 0),
+        5 => refused(2, 0),
+        6 => refused(2, 0),
+        7 => refused(2, 0),
         _ => refused(2, 0),
     }
 }
@@ -175,6 +182,7 @@ pub fn image_record(input: &[u8], at: usize) -> Record
             event: Event::End,
             length: 1,
         },
+        1 => refused(2, at),
         2 => {
             if left < 4 {
                 return refused(1, at);
@@ -202,6 +210,9 @@ pub fn image_record(input: &[u8], at: usize) -> Record
                 length: 11,
             }
         }
+        5 => refused(2, at),
+        6 => refused(2, at),
+        7 => refused(2, at),
         _ => refused(2, at),
     }
 }
@@ -218,6 +229,8 @@ pub fn event_record(input: &[u8], at: usize) -> Record
     let start = at + 1;
     let left = input.len() - start;
     match kind {
+        0 => refused(2, at),
+        1 => refused(2, at),
         2 => {
             if left < 4 {
                 return refused(1, at);
@@ -227,6 +240,8 @@ pub fn event_record(input: &[u8], at: usize) -> Record
                 length: 5,
             }
         }
+        3 => refused(2, at),
+        4 => refused(2, at),
         5 => {
             if left < 128 {
                 return refused(1, at);
