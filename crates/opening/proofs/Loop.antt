@@ -8,12 +8,11 @@ use native.Mathlib.Omega.{arith}
 use lib.ListN.{length, drop, length-drop}
 use lib.Seq.{drop-drop}
 use Rattle.network.specs.Network.{Net}
-use Rattle.records.specs.Records.{recordOf}
+use Rattle.records.specs.Records.{inImage, recordOf}
 use Rattle.records.specs.Opening.{Step, stop, onward, placed, Opening, afterStep, readRecords}
 use Rattle.records.specs.declared.Event.{Event}
 use Rattle.records.specs.declared.Event.the-variants.{Refusal}
 use Rattle.records.specs.declared.Record.{Record}
-use Rattle.records.specs.declared.Section.the-variants.{Image}
 use Rattle.records.proofs.Reading.{length-within, length-some}
 use Rattle.opening.specs.declared.Next.{Next}
 use Rattle.opening.specs.declared.Next.the-variants.{Stopped, Finished, Onward}
@@ -39,7 +38,7 @@ onward-read x next e z k q i p h =
     omega arith
 
 -- the record at the head, read as c and placed, led to r and the network z
-module _ (whole : Opening) (s : List ℕ) (x : Net) (next at : ℕ) (g : Going whole s x next at) (c : Record) (is : c ≡ recordOf Image at (drop at s))
+module _ (whole : Opening) (s : List ℕ) (x : Net) (next at : ℕ) (g : Going whole s x next at) (c : Record) (is : c ≡ recordOf inImage at (drop at s))
     (r : Next) (z : Net) (p : Places x next (c .event) r z) where
   abbrev after : ℕ → Step → Opening
   after f t = afterStep (λ w k. readRecords f w k (at + c .length) (drop (c .length) (drop at s))) x at t
@@ -69,12 +68,12 @@ module _ (whole : Opening) (s : List ℕ) (x : Net) (next at : ℕ) (g : Going w
     some : 0 < c .length
     unfolding stepMeans
     some =
-        rw is (length-some Image at (drop at s)
-        (onward-read x next (recordOf Image at (drop at s) .event) z k
+        rw is (length-some inImage at (drop at s)
+        (onward-read x next (recordOf inImage at (drop at s) .event) z k
         (ap (λ t. stepMeans t z) (sym h) ∙ p .step ∙ ap (λ (d : Record). placed x next (d .event)) is)))
 
     inside : c .length ≤ length s - at
-    inside = omega (arith, ap (λ (d : Record). d .length) is, length-within Image at (drop at s), length-drop at s)
+    inside = omega (arith, ap (λ (d : Record). d .length) is, length-within inImage at (drop at s), length-drop at s)
 
     pub at-next : Going whole s z k (at + c .length) × (0 < c .length) × (at + c .length ≤ length s)
     unfolding stepMeans

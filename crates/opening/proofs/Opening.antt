@@ -12,12 +12,11 @@ use Rattle.network.proofs.Effects.{outcome-number, refused-net, accepted-net}
 use Rattle.network.proofs.FaultLaws.{size-free}
 use Rattle.memory.specs.Layout.{view}
 use Rattle.memory.specs.Answers.{Starts}
-use Rattle.records.specs.Records.{recordOf}
+use Rattle.records.specs.Records.{atStart, recordOf}
 use Rattle.records.specs.Opening.{Opening, refusedOpening, readRecords, started, openOf}
 use Rattle.records.specs.declared.Event.{Event}
 use Rattle.records.specs.declared.Event.the-variants.{Header, Refusal}
 use Rattle.records.specs.declared.Record.{Record}
-use Rattle.records.specs.declared.Section.the-variants.{Start}
 use Rattle.records.proofs.Reading.{length-within, length-some}
 use Rattle.opening.specs.declared.Finish.{Finish}
 use Rattle.opening.specs.declared.Finish.the-variants.{Refused, Accepted}
@@ -77,17 +76,17 @@ module _ (o : Opening) (f : Finish) (words : List ℕ) (is : finishMeans f (view
 
 -- ---- the whole, by the event of the first record c
 
-module _ (bs : List ℕ) (c : Record) (is : c ≡ recordOf Start 0 (drop 0 bs)) (e : Event) (h : c .event ≡ e) where
+module _ (bs : List ℕ) (c : Record) (is : c ≡ recordOf atStart 0 (drop 0 bs)) (e : Event) (h : c .event ≡ e) where
   pub opening-of : (o : Opening) {k at used : ℕ} {words : List ℕ} → o ≡ started bs c e → Opens o k at used words → Opens (openOf bs) k at used words
   unfolding openOf
   opening-of o q = opens-same (q ∙ ap (started bs c) (sym h) ∙ ap (λ (d : Record). started bs d (d .event)) is)
 
 -- a header lies within the bytes
-pub header-within : (bs : List ℕ) (c : Record) → c ≡ recordOf Start 0 (drop 0 bs) → (n o : ℕ) → c .event ≡ Header n o → (0 < c .length) × (c .length ≤ length bs)
+pub header-within : (bs : List ℕ) (c : Record) → c ≡ recordOf atStart 0 (drop 0 bs) → (n o : ℕ) → c .event ≡ Header n o → (0 < c .length) × (c .length ≤ length bs)
 header-within bs c is n o h =
     let l = ap (λ (d : Record). d .length) is in (
-      omega (arith, l, length-some Start 0 (drop 0 bs) (λ e p q. clash e p (ap (λ (d : Record). d .event) is ∙ q))),
-      omega (arith, l, length-within Start 0 (drop 0 bs)),
+      omega (arith, l, length-some atStart 0 (drop 0 bs) (λ e p q. clash e p (ap (λ (d : Record). d .event) is ∙ q))),
+      omega (arith, l, length-within atStart 0 (drop 0 bs)),
     )
   where
     clash : (e p : ℕ) → c .event ≡ Refusal e p → ⊥

@@ -12,13 +12,12 @@ use lib.Seq.{drop-cons}
 use borrow.Author.Tests.{lt-ltb, le-ltb, eq-eqb, ne-eqb}
 use Rattle.network.specs.Faults.{gradeFault}
 use Rattle.network.specs.Change.{gradeCost}
-use Rattle.records.specs.Records.{bodyLength, bodyOf, arcChange, gradeChange, eventOf, allowed, refusedRecord, bodied, recordOf}
+use Rattle.records.specs.Records.{Section, bodyLength, bodyOf, arcChange, gradeChange, eventOf, allowed, refusedRecord, bodied, recordOf}
 use Rattle.records.specs.Numbers.{num8, num16, num32}
 use Rattle.records.proofs.Reading.{never-allowed}
 use Rattle.records.specs.declared.ArcChange.the-variants.{Set, Removed}
 use Rattle.records.specs.declared.Event.{Event}
 use Rattle.records.specs.declared.Event.the-variants.{End, Header, Change, Row, Report, Round, FullRound, Refusal}
-use Rattle.records.specs.declared.Section.{Section}
 
 -- ---- numbers
 

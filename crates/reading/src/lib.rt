@@ -5,8 +5,7 @@ ghost use mathlib.Core.Path.{_≡_};
 ghost use Prim.Native.Nat.{_+_, _*_, _<_};
 ghost use lib.ListN.{length, drop};
 ghost use Rattle.records.specs.Numbers.{num8, num16, num32};
-ghost use Rattle.records.specs.Records.{arcChange, gradeChange, refusedRecord, recordOf};
-ghost use Rattle.records.specs.declared.Section.the-variants.{Start, Image, Events};
+ghost use Rattle.records.specs.Records.{atStart, inImage, asEvent, arcChange, gradeChange, refusedRecord, recordOf};
 ghost use Rattle.records.specs.declared.Event.the-variants.{Header, Change, Row, Report};
 use records::ArcChange;
 use records::Event;
@@ -138,7 +137,7 @@ fn refused(number: u8, at: usize) -> Record
 
 // The first record: kind 1. A missing kind byte is refused as 1, then another kind as 2, then a short body as 1.
 pub fn start_record(input: &[u8]) -> Record
-    ensures { λ r. ⌜ r ≡ recordOf Start 0 (now (input .entry)) ⌝ }
+    ensures { λ r. ⌜ r ≡ recordOf atStart 0 (now (input .entry)) ⌝ }
 {
     if input.len() == 0 {
         return refused(1, 0);
@@ -169,7 +168,7 @@ pub fn start_record(input: &[u8]) -> Record
 // The record at the place `at` inside an image: kinds 0 and 2 to 4. A missing kind byte is refused as 1, then another kind as 2, then a
 // short body as 1.
 pub fn image_record(input: &[u8], at: usize) -> Record
-    ensures { λ r. ⌜ r ≡ recordOf Image at (drop at (now (input .entry))) ⌝ }
+    ensures { λ r. ⌜ r ≡ recordOf inImage at (drop at (now (input .entry))) ⌝ }
 {
     if input.len() <= at {
         return refused(1, at);
@@ -220,7 +219,7 @@ pub fn image_record(input: &[u8], at: usize) -> Record
 // The record at the place `at` after an image: kinds 2 and 5 to 7. A missing kind byte is refused as 1, then another kind as 2, then a short
 // body as 1.
 pub fn event_record(input: &[u8], at: usize) -> Record
-    ensures { λ r. ⌜ r ≡ recordOf Events at (drop at (now (input .entry))) ⌝ }
+    ensures { λ r. ⌜ r ≡ recordOf asEvent at (drop at (now (input .entry))) ⌝ }
 {
     if input.len() <= at {
         return refused(1, at);

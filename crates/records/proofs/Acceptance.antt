@@ -19,13 +19,12 @@ use Rattle.network.proofs.Effects.{accepted-net, fresh-outcome, FreshEffect, fr
 use Rattle.network.proofs.Keeping.{fresh-within}
 use Rattle.network.proofs.Limits.{within-size}
 use Rattle.records.specs.Numbers.{Bytes, be8}
-use Rattle.records.specs.Records.{endRecord, headerRecord, refusedRecord, recordOf}
+use Rattle.records.specs.Records.{atStart, inImage, endRecord, headerRecord, refusedRecord, recordOf}
 use Rattle.records.specs.Image.{each, rowBytes, reportBytes, image}
 use Rattle.records.specs.Opening.{Step, stop, finish, onward, placed, Opening, refusedOpening, acceptedOpening, afterStep, readRecords, started, openOf}
 use Rattle.records.specs.Acceptance.{IsImage, Acceptance, Reopening}
 use Rattle.records.specs.declared.Event.the-variants.{Header}
 use Rattle.records.specs.declared.Record.{Record}
-use Rattle.records.specs.declared.Section.the-variants.{Start, Image}
 use Rattle.records.proofs.Each.{each-split, each-none}
 use Rattle.records.proofs.ImageSteps.{ReadAt, NoneFrom, read-at, end-at, stop-at, Prefix, Taken, takes}
 use Rattle.records.proofs.Parsing.{bytes-drop, end-parse, StartShown, a-header, a-stop, start-shown, header-parse}
@@ -111,7 +110,7 @@ given zero z next at bs x used by h none-from w q = absurd (omega (arith, openin
 given (suc f) z next at bs x used by h none-from w q = go (given f) (placed z next (rec .event)) refl q
   where
     rec : Record
-    rec = recordOf Image at bs
+    rec = recordOf inImage at bs
 
     go : ((z : Net) (next at : ℕ) (bs : List ℕ) (x : Net) (used : ℕ) → Bytes bs → next ≤ 2080 → NoneFrom z next → Within z →
         readRecords f z next at bs ≡ acceptedOpening x used → Given z next at bs x used) →
@@ -184,7 +183,7 @@ module _ (x : Net) (wx : Within x) (rest : List ℕ) where
       let w = rankBytes x j in
       let e = each (rankBytes x) (suc j) d in
       let bs = w ++ (e ++ (0 ∷ rest)) in
-      let len = recordOf Image at bs .length in
+      let len = recordOf inImage at bs .length in
       let n : at + length w + length e + 1 ≡ at + length (w ++ e) + 1 = omega (arith, length-append w e) in
       ap (readRecords (suc f) z next at) (append-assoc w e (0 ∷ rest)) ∙
       ap (afterStep (λ y above. readRecords f y above (at + len) (drop len bs)) z at) (t .onwards) ∙
@@ -272,12 +271,12 @@ image-long x w =
     omega arith
 
 -- what the first record leads to
-pub started-header : (bs : List ℕ) (n o : ℕ) → recordOf Start 0 bs ≡ record { event = Header n o; length = 3 } →
+pub started-header : (bs : List ℕ) (n o : ℕ) → recordOf atStart 0 bs ≡ record { event = Header n o; length = 3 } →
     openOf bs ≡ cond (eqb (freshNumber n o) 0) (readRecords (length bs) (freshNet n o) 0 3 (drop 3 bs)) (refusedOpening (freshNumber n o) 0)
 unfolding openOf started
 started-header bs n o e = ap (λ (r : Record). started bs r (r .event)) e
 
-pub started-stop : (bs : List ℕ) (e : ℕ) → recordOf Start 0 bs ≡ refusedRecord e 0 → openOf bs ≡ refusedOpening e 0
+pub started-stop : (bs : List ℕ) (e : ℕ) → recordOf atStart 0 bs ≡ refusedRecord e 0 → openOf bs ≡ refusedOpening e 0
 unfolding openOf started
 started-stop bs e p = ap (λ (r : Record). started bs r (r .event)) p
 
@@ -302,7 +301,7 @@ only-images bs by x used q = go (start-shown bs)
           bytes = ap (take used) whole ∙ take-at (image x) (g .rest) used (sym u);
         }
 
-    go : StartShown bs (recordOf Start 0 bs) → IsImage bs x used
+    go : StartShown bs (recordOf atStart 0 bs) → IsImage bs x used
     go (a-stop e n p) = absurd (n (opening-number e 0 x used (sym (started-stop bs e p) ∙ q)))
     go (a-header n o b p e) = by-number (eq-or-ne (freshNumber n o) 0)
       where

@@ -18,14 +18,13 @@ use Rattle.network.proofs.Accepting.{change-accepted, place-row-accepted, place
 use Rattle.network.proofs.FaultLaws.{cost-free, node-says, pair-says}
 use Rattle.network.proofs.Limits.{within-size, within-row, within-report}
 use Rattle.records.specs.Numbers.{Bytes}
-use Rattle.records.specs.Records.{arcRecord, rowRecord, reportRecord, eventOf, recordOf}
+use Rattle.records.specs.Records.{inImage, arcRecord, rowRecord, reportRecord, eventOf, recordOf}
 use Rattle.records.specs.Image.{rowBytes, reportBytes}
 use Rattle.records.specs.Opening.{arcRank, rowRank, reportRank, orderNumber, firstOf, arcNumber, rowNumber, reportNumber, Step, stop, finish, onward, judged, placed}
 use Rattle.records.specs.declared.ArcChange.the-variants.{Set, Removed}
 use Rattle.records.specs.declared.Event.{Event}
 use Rattle.records.specs.declared.Event.the-variants as E
 use Rattle.records.specs.declared.Record.{Record}
-use Rattle.records.specs.declared.Section.the-variants.{Image}
 use Rattle.records.proofs.Ranks.{rankBytes}
 use Rattle.records.proofs.Parsing as P
 use Rattle.records.proofs.Parsing.{Shown, shown, arc-back, row-back, report-back, arc-parse, row-parse, report-parse}
@@ -219,11 +218,11 @@ module _ (x : Net) (w : Within x) (next at : ℕ) (bs : List ℕ) (by : Bytes bs
         placed-at = rw m (report-placed x w s r d l ok);
       }
 
-  pub read-at : (z : Net) (n : ℕ) → placed x next (recordOf Image at bs .event) ≡ onward z n → ReadAt x next bs (recordOf Image at bs .length) z n
-  read-at z n q = go (went x next (recordOf Image at bs .event) z n q)
+  pub read-at : (z : Net) (n : ℕ) → placed x next (recordOf inImage at bs .event) ≡ onward z n → ReadAt x next bs (recordOf inImage at bs .length) z n
+  read-at z n q = go (went x next (recordOf inImage at bs .event) z n q)
     where
       rec : Record
-      rec = recordOf Image at bs
+      rec = recordOf inImage at bs
 
       go : Went x next (rec .event) z n → ReadAt x next bs (rec .length) z n
       go (an-arc s r c e ok above m moved) = read-arc s r c z n rec (shown at bs) e ok above m moved
@@ -231,9 +230,9 @@ module _ (x : Net) (w : Within x) (next at : ℕ) (bs : List ℕ) (by : Bytes bs
       go (a-report s r d l e above ok m moved) = read-report s r d l z n rec (shown at bs) e above ok m moved
 
 -- only the end record ends
-pub end-at : (x : Net) (next at : ℕ) (bs : List ℕ) → placed x next (recordOf Image at bs .event) ≡ finish → (rest : List ℕ) × (bs ≡ 0 ∷ rest)
+pub end-at : (x : Net) (next at : ℕ) (bs : List ℕ) → placed x next (recordOf inImage at bs .event) ≡ finish → (rest : List ℕ) × (bs ≡ 0 ∷ rest)
 unfolding eventOf
-end-at x next at bs q = go (shown at bs) (only-end x next (recordOf Image at bs .event) q)
+end-at x next at bs q = go (shown at bs) (only-end x next (recordOf inImage at bs .event) q)
   where
     go : {rec : Record} → Shown at bs rec → rec .event ≡ E.End → (rest : List ℕ) × (bs ≡ 0 ∷ rest)
     go (P.an-end b p e) q = (b, p)
@@ -243,9 +242,9 @@ end-at x next at bs q = go (shown at bs) (only-end x next (recordOf Image at bs 
     go (P.a-stop k _ e) q = let y : _≡_ {A = ℕ} 0 1 = cc (e, q) in absurd (omega arith)
 
 -- a refused record has a number other than 0
-pub stop-at : (x : Net) (next at : ℕ) (bs : List ℕ) (e : ℕ) → placed x next (recordOf Image at bs .event) ≡ stop e → e ≢ 0
+pub stop-at : (x : Net) (next at : ℕ) (bs : List ℕ) (e : ℕ) → placed x next (recordOf inImage at bs .event) ≡ stop e → e ≢ 0
 unfolding eventOf
-stop-at x next at bs e q = stop-some x next (recordOf Image at bs .event) e (λ p. go p (shown at bs)) q
+stop-at x next at bs e q = stop-some x next (recordOf inImage at bs .event) e (λ p. go p (shown at bs)) q
   where
     go : {rec : Record} (p : ℕ) → Shown at bs rec → rec .event ≡ E.Refusal 0 p → ⊥
     go p (P.an-end b f e) q = let y : _≡_ {A = ℕ} 0 1 = cc (e, q) in absurd (omega arith)
@@ -267,8 +266,8 @@ pub record Prefix (x z : Net) (k : ℕ) : Type 0 where
 -- the record at the front of bs, of rank k and bytes w, was placed
 pub record Taken (z : Net) (next k at : ℕ) (w bs : List ℕ) : Type 0 where
   pub net : Net
-  pub long : recordOf Image at bs .length ≡ length w
-  pub onwards : placed z next (recordOf Image at bs .event) ≡ onward net (suc k)
+  pub long : recordOf inImage at bs .length ≡ length w
+  pub onwards : placed z next (recordOf inImage at bs .event) ≡ onward net (suc k)
   pub placed-at : PlacedAt z net k w
 
 judged-none : (e : ℕ) (z : Net) (k : ℕ) → e ≡ 0 → judged e z k ≡ onward z (suc k)

@@ -14,12 +14,11 @@ use Rattle.network.specs.Network.{Net, Within, freshNet, freshNumber}
 use Rattle.network.proofs.Accepting.{fresh-free}
 use Rattle.network.proofs.FaultLaws.{size-free}
 use Rattle.records.specs.Numbers.{Bytes}
-use Rattle.records.specs.Records.{recordOf}
+use Rattle.records.specs.Records.{atStart, inImage, recordOf}
 use Rattle.records.specs.Opening.{Step, stop, finish, onward, placed, Opening, refusedOpening, acceptedOpening, afterStep, readRecords, started, openOf}
 use Rattle.records.specs.declared.Event.{Event}
 use Rattle.records.specs.declared.Event.the-variants.{End, Header, Change, Row, Report, Round, FullRound, Refusal}
 use Rattle.records.specs.declared.Record.{Record}
-use Rattle.records.specs.declared.Section.the-variants.{Start, Image}
 use Rattle.records.proofs.Reading.{by-outcome, length-within}
 use Rattle.records.proofs.ImageSteps.{stop-at}
 use Rattle.records.proofs.Parsing.{StartShown, a-header, a-stop, start-shown}
@@ -35,7 +34,7 @@ records-is zero x next at bs = refused 1 at (λ z. omega arith) refl
 records-is (suc k) x next at bs = go (placed x next (r .event)) refl (records-is k)
   where
     r : Record
-    r = recordOf Image at bs
+    r = recordOf inImage at bs
 
     go : (s : Step) → placed x next (r .event) ≡ s → ((x : Net) (next at : ℕ) (bs : List ℕ) → OpenIs (readRecords k x next at bs)) →
         OpenIs (afterStep (λ z above. readRecords k z above (at + r .length) (drop (r .length) bs)) x at s)
@@ -46,7 +45,7 @@ records-is (suc k) x next at bs = go (placed x next (r .event)) refl (records-is
 pub open-is : (bs : List ℕ) → OpenIs (openOf bs)
 open-is bs = go (start-shown bs)
   where
-    go : StartShown bs (recordOf Start 0 bs) → OpenIs (openOf bs)
+    go : StartShown bs (recordOf atStart 0 bs) → OpenIs (openOf bs)
     go (a-stop e n p) = refused e 0 n (started-stop bs e p)
     go (a-header n o b p e) = rw (started-header bs n o e) (by-number (eq-or-ne (freshNumber n o) 0))
       where
@@ -67,10 +66,10 @@ open-within bs by = go (open-is bs)
 -- ---- the bytes used are bytes of the input
 
 -- the end of an image is a byte of the input
-end-inside : (x : Net) (next at : ℕ) (s : List ℕ) → placed x next (recordOf Image at s .event) ≡ finish → 0 < length s
+end-inside : (x : Net) (next at : ℕ) (s : List ℕ) → placed x next (recordOf inImage at s .event) ≡ finish → 0 < length s
 unfolding placed
 end-inside x next at s =
-    by-outcome (λ (r : Record). placed x next (r .event) ≡ finish → 0 < length s) Image at s (λ q. clash q) (λ q. clash q)
+    by-outcome (λ (r : Record). placed x next (r .event) ≡ finish → 0 < length s) inImage at s (λ q. clash q) (λ q. clash q)
     (λ k b e a h q. let l = ap length e in omega arith)
   where
     clash : {e : ℕ} → stop e ≡ finish → 0 < length s
@@ -88,15 +87,15 @@ used-records : (k : ℕ) (x : Net) (next at : ℕ) (s : List ℕ) → readRecord
 unfolding readRecords
 used-records zero x next at s = omega arith
 used-records (suc k) x next at s =
-    let r = recordOf Image at s in
+    let r = recordOf inImage at s in
     used-after at s (λ z above. readRecords k z above (at + r .length) (drop (r .length) s)) x
-    (λ z above. omega (arith, used-records k z above (at + r .length) (drop (r .length) s), length-drop (r .length) s, length-within Image at s))
+    (λ z above. omega (arith, used-records k z above (at + r .length) (drop (r .length) s), length-drop (r .length) s, length-within inImage at s))
     (placed x next (r .event)) (end-inside x next at s)
 
 -- opening uses no more bytes than there are
 pub open-used : (s : List ℕ) → openOf s .used ≤ length s
 unfolding openOf started
-open-used s = go (recordOf Start 0 s) (recordOf Start 0 s .event) (length-within Start 0 s)
+open-used s = go (recordOf atStart 0 s) (recordOf atStart 0 s .event) (length-within atStart 0 s)
   where
     chosen : (t : Bool) (x y : Opening) → x .used ≤ length s → y .used ≤ length s → cond t x y .used ≤ length s
     chosen true x y f g = f

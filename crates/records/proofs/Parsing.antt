@@ -12,11 +12,10 @@ use lib.Seq.{drop-cons, getD-take, getD-drop, length-take-le}
 use borrow.Author.Tests.{le-ltb, ne-eqb, eqb-true, eqb-false, ltb-true, ltb-false}
 use Rattle.ancestors.proofs.Cases.{bool-cases, cond-by, and-both}
 use Rattle.records.specs.Numbers.{Bytes, be8, be16, be32, num8, num16, num32}
-use Rattle.records.specs.Records.{arcRecord, rowRecord, reportRecord, bodyLength, bodyOf, arcChange, eventOf, allowed, refusedRecord, bodied, recordOf}
+use Rattle.records.specs.Records.{atStart, inImage, arcRecord, rowRecord, reportRecord, bodyLength, bodyOf, arcChange, eventOf, allowed, refusedRecord, bodied, recordOf}
 use Rattle.records.specs.declared.ArcChange.the-variants.{Set, Removed}
 use Rattle.records.specs.declared.Event.the-variants.{End, Header, Change, Row, Report}
 use Rattle.records.specs.declared.Record.{Record}
-use Rattle.records.specs.declared.Section.the-variants.{Start, Image}
 use Rattle.records.proofs.NumberLaws.{be8-of, be16-of, be32-of, num16-of, num32-of, num16-small}
 
 -- ---- bytes
@@ -58,7 +57,7 @@ pub data Shown (at : ℕ) (bs : List ℕ) (r : Record) : Type 0 where
   a-stop : (e : ℕ) → e ≢ 0 → r ≡ refusedRecord e at → Shown at bs r
 
 -- inside an image
-image-kinds : (k : ℕ) → allowed Image k ≡ true → (k ≡ 0) ⊎ ((k ≡ 2) ⊎ ((k ≡ 3) ⊎ (k ≡ 4)))
+image-kinds : (k : ℕ) → allowed inImage k ≡ true → (k ≡ 0) ⊎ ((k ≡ 2) ⊎ ((k ≡ 3) ⊎ (k ≡ 4)))
 unfolding allowed
 image-kinds k e = go (bool-cases (eqb k 0))
   where
@@ -89,11 +88,11 @@ body-shown at k b (inr (inr (inl e))) =
 body-shown at k b (inr (inr (inr e))) =
     rw e (cond-by (Shown at (4 ∷ b)) (ltb (length b) 10) _ _ (λ _. a-stop 1 (λ z. omega arith) refl) (λ t. a-report b refl (ltb-false (length b) 10 t) refl))
 
-pub shown : (at : ℕ) (bs : List ℕ) → Shown at bs (recordOf Image at bs)
+pub shown : (at : ℕ) (bs : List ℕ) → Shown at bs (recordOf inImage at bs)
 unfolding recordOf
 shown at [] = a-stop 1 (λ z. omega arith) refl
 shown at (k ∷ b) =
-    cond-by (Shown at (k ∷ b)) (allowed Image k) (bodied at k b) (refusedRecord 2 at) (λ e. body-shown at k b (image-kinds k e)) (λ _. a-stop 2 (λ z. omega arith) refl)
+    cond-by (Shown at (k ∷ b)) (allowed inImage k) (bodied at k b) (refusedRecord 2 at) (λ e. body-shown at k b (image-kinds k e)) (λ _. a-stop 2 (λ z. omega arith) refl)
 
 -- ---- from the event back to the bytes
 
@@ -191,12 +190,12 @@ report-back at b s r d l h n q =
 
 -- ---- from the bytes to the event
 
-pub end-parse : (at : ℕ) (rest : List ℕ) → recordOf Image at (0 ∷ rest) ≡ record { event = End; length = 1 }
+pub end-parse : (at : ℕ) (rest : List ℕ) → recordOf inImage at (0 ∷ rest) ≡ record { event = End; length = 1 }
 unfolding recordOf allowed bodied bodyLength bodyOf eventOf
 end-parse at rest = rw (le-ltb (length rest) 0 (omega arith))
 
 pub arc-parse : (at s r c : ℕ) (rest : List ℕ) → s < 256 → r < 256 → c ≢ 0 → c < 65536 →
-    recordOf Image at (arcRecord s r c ++ rest) ≡ record { event = Change (Set s r c); length = 5 }
+    recordOf inImage at (arcRecord s r c ++ rest) ≡ record { event = Change (Set s r c); length = 5 }
 unfolding recordOf allowed bodied bodyLength bodyOf eventOf arcRecord arcChange be16 be8 num16 num8
 arc-parse at s r c rest hs hr nz h =
     let ps : s % 256 ≡ s = omega arith in
@@ -204,7 +203,7 @@ arc-parse at s r c rest hs hr nz h =
     simp (le-ltb (suc (suc (suc (suc (length rest))))) 4 (omega arith), ps, pr, num16-of c h, ne-eqb c 0 nz)
 
 pub row-parse : (at y d p l : ℕ) (rest : List ℕ) → y < 256 → d < 4294967296 → p < 256 → l < 4294967296 →
-    recordOf Image at (rowRecord y d p l ++ rest) ≡ record { event = Row y d p l; length = 11 }
+    recordOf inImage at (rowRecord y d p l ++ rest) ≡ record { event = Row y d p l; length = 11 }
 unfolding recordOf allowed bodied bodyLength bodyOf eventOf rowRecord be32 be16 be8 num32 num16 num8
 row-parse at y d p l rest hy hd hp hl =
     let py : y % 256 ≡ y = omega arith in
@@ -212,7 +211,7 @@ row-parse at y d p l rest hy hd hp hl =
     simp (le-ltb (suc (suc (suc (suc (suc (suc (suc (suc (suc (suc (length rest))))))))))) 10 (omega arith), py, pp, num32-of d hd, num32-of l hl)
 
 pub report-parse : (at s r d l : ℕ) (rest : List ℕ) → s < 256 → r < 256 → d < 4294967296 → l < 4294967296 →
-    recordOf Image at (reportRecord s r d l ++ rest) ≡ record { event = Report s r d l; length = 11 }
+    recordOf inImage at (reportRecord s r d l ++ rest) ≡ record { event = Report s r d l; length = 11 }
 unfolding recordOf allowed bodied bodyLength bodyOf eventOf reportRecord be32 be16 be8 num32 num16 num8
 report-parse at s r d l rest hs hr hd hl =
     let ps : s % 256 ≡ s = omega arith in
@@ -231,13 +230,13 @@ header-shown [] = a-stop 1 (λ z. omega arith) refl
 header-shown (n ∷ []) = a-stop 1 (λ z. omega arith) refl
 header-shown (n ∷ o ∷ b) = a-header n o b refl (rw (le-ltb (suc (suc (length b))) 2 (omega arith)))
 
-pub start-shown : (bs : List ℕ) → StartShown bs (recordOf Start 0 bs)
+pub start-shown : (bs : List ℕ) → StartShown bs (recordOf atStart 0 bs)
 unfolding recordOf allowed
 start-shown [] = a-stop 1 (λ z. omega arith) refl
 start-shown (k ∷ b) =
     cond-by (StartShown (k ∷ b)) (eqb k 1) (bodied 0 k b) (refusedRecord 2 0)
     (λ e. rw (eqb-true k 1 e) (header-shown b)) (λ _. a-stop 2 (λ z. omega arith) refl)
 
-pub header-parse : (n o : ℕ) (b : List ℕ) → recordOf Start 0 (1 ∷ n ∷ o ∷ b) ≡ record { event = Header n o; length = 3 }
+pub header-parse : (n o : ℕ) (b : List ℕ) → recordOf atStart 0 (1 ∷ n ∷ o ∷ b) ≡ record { event = Header n o; length = 3 }
 unfolding recordOf allowed bodied bodyLength bodyOf eventOf num8
 header-parse n o b = rw (le-ltb (suc (suc (length b))) 2 (omega arith))

@@ -11,21 +11,19 @@ use lib.ListN.{length, take}
 use borrow.Author.Tests.{lt-ltb, le-ltb, ne-eqb, ltb-false}
 use Rattle.ancestors.proofs.Cases.{le-or-lt, never, cond-by}
 use Rattle.network.specs.Faults.{gradeFault}
-use Rattle.records.specs.Records.{bodyLength, bodyOf, gradeChange, eventOf, allowed, refusedRecord, bodied, recordOf}
+use Rattle.records.specs.Records.{Section, atStart, inImage, asEvent, bodyLength, bodyOf, gradeChange, eventOf, allowed, refusedRecord, bodied, recordOf}
 use Rattle.records.specs.declared.Event.{Event}
 use Rattle.records.specs.declared.Event.the-variants.{End, Header, Change, Row, Report, Round, FullRound, Refusal}
 use Rattle.records.specs.declared.Record.{Record}
-use Rattle.records.specs.declared.Section.{Section}
-use Rattle.records.specs.declared.Section.the-variants.{Start, Image, Events}
 
 -- ---- kinds
 
 -- no section allows a kind from 8 on
 pub never-allowed : (z : Section) (k : ℕ) → 8 ≤ k → allowed z k ≡ false
 unfolding allowed
-never-allowed Start k h = rw (ne-eqb k 1 (λ e. omega arith))
-never-allowed Image k h = rw (ne-eqb k 0 (λ e. omega arith), lt-ltb 1 k (omega arith), le-ltb k 5 (omega arith))
-never-allowed Events k h = rw (ne-eqb k 2 (λ e. omega arith), lt-ltb 4 k (omega arith), le-ltb k 8 h)
+never-allowed atStart k h = rw (ne-eqb k 1 (λ e. omega arith))
+never-allowed inImage k h = rw (ne-eqb k 0 (λ e. omega arith), lt-ltb 1 k (omega arith), le-ltb k 5 (omega arith))
+never-allowed asEvent k h = rw (ne-eqb k 2 (λ e. omega arith), lt-ltb 4 k (omega arith), le-ltb k 8 h)
 
 -- a kind that is allowed is below 8
 kind-small : (z : Section) (k : ℕ) → allowed z k ≡ true → k < 8
@@ -123,25 +121,25 @@ LaterEvent at len (Refusal e p) = RefusedAt at e p
 
 -- what the event of a record in section z at the place `at` can be, with the record's length
 abbrev pub Expected : Section → ℕ → ℕ → Event → Type 0
-Expected Start at len e = StartEvent at len e
-Expected Image at len e = ImageEvent at len e
-Expected Events at len e = LaterEvent at len e
+Expected atStart at len e = StartEvent at len e
+Expected inImage at len e = ImageEvent at len e
+Expected asEvent at len e = LaterEvent at len e
 
 -- of a refused record, and of a whole one
 refused-expected : (z : Section) (at e : ℕ) → 0 < e → e ≤ 3 → Expected z at 0 (Refusal e at)
-refused-expected Start at e a b = (refl, a, b)
-refused-expected Image at e a b = (refl, a, b)
-refused-expected Events at e a b = (refl, a, b)
+refused-expected atStart at e a b = (refl, a, b)
+refused-expected inImage at e a b = (refl, a, b)
+refused-expected asEvent at e a b = (refl, a, b)
 
 whole-expected : (z : Section) (at : ℕ) (b : List ℕ) (k : ℕ) → k < 8 → allowed z k ≡ true → Expected z at (suc (bodyLength k)) (eventOf at k b)
 unfolding allowed bodyLength eventOf gradeChange
-whole-expected Start at b =
-    by-kind (λ k. allowed Start k ≡ true → StartEvent at (suc (bodyLength k)) (eventOf at k b)) clash (λ _. refl) clash clash clash clash clash clash
-whole-expected Image at b =
-    by-kind (λ k. allowed Image k ≡ true → ImageEvent at (suc (bodyLength k)) (eventOf at k b)) (λ _. refl) clash (λ _. refl) (λ _. refl) (λ _. refl)
+whole-expected atStart at b =
+    by-kind (λ k. allowed atStart k ≡ true → StartEvent at (suc (bodyLength k)) (eventOf at k b)) clash (λ _. refl) clash clash clash clash clash clash
+whole-expected inImage at b =
+    by-kind (λ k. allowed inImage k ≡ true → ImageEvent at (suc (bodyLength k)) (eventOf at k b)) (λ _. refl) clash (λ _. refl) (λ _. refl) (λ _. refl)
     clash clash clash
-whole-expected Events at b =
-    by-kind (λ k. allowed Events k ≡ true → LaterEvent at (suc (bodyLength k)) (eventOf at k b)) clash clash (λ _. (omega arith, omega arith)) clash clash
+whole-expected asEvent at b =
+    by-kind (λ k. allowed asEvent k ≡ true → LaterEvent at (suc (bodyLength k)) (eventOf at k b)) clash clash (λ _. (omega arith, omega arith)) clash clash
     (λ _. refl) (λ _. refl)
     (λ _. cond-by (LaterEvent at 4) (gradeFault _) _ _ (λ _. (refl, omega arith, omega arith)) (λ _. (omega arith, omega arith)))
 
@@ -158,9 +156,9 @@ expected z at bs e q =
 -- a refusal's place and number
 -- a round's record has 129 bytes
 pub round-length : (z : Section) (at : ℕ) (bs : List ℕ) → recordOf z at bs .event ≡ Round → recordOf z at bs .length ≡ 129
-round-length Start at bs q = absurd (expected Start at bs Round q)
-round-length Image at bs q = absurd (expected Image at bs Round q)
-round-length Events at bs q = expected Events at bs Round q
+round-length atStart at bs q = absurd (expected atStart at bs Round q)
+round-length inImage at bs q = absurd (expected inImage at bs Round q)
+round-length asEvent at bs q = expected asEvent at bs Round q
 
 -- and lies within the bytes
 pub round-within : (z : Section) (at : ℕ) (bs : List ℕ) → recordOf z at bs .event ≡ Round → 129 ≤ length bs

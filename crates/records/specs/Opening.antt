@@ -9,12 +9,11 @@ use Rattle.network.specs.Faults.{nodeFault, pairFault}
 use Rattle.network.specs.Network.{via, told, Net, withRow, withHeld, freshNet, freshNumber}
 use Rattle.network.specs.Placing.{placeRowNumber, placeReportNumber}
 use Rattle.network.specs.Change.{changed, changeNumber}
-use Rattle.records.specs.Records.{recordOf}
+use Rattle.records.specs.Records.{atStart, inImage, recordOf}
 use Rattle.records.specs.declared.ArcChange.the-variants.{Set, Removed}
 use Rattle.records.specs.declared.Event.{Event}
 use Rattle.records.specs.declared.Event.the-variants.{End, Header, Change, Row, Report, Round, FullRound, Refusal}
 use Rattle.records.specs.declared.Record.{Record}
-use Rattle.records.specs.declared.Section.the-variants.{Start, Image}
 
 -- ---- image order
 
@@ -101,7 +100,7 @@ afterStep go x at (onward z next) = go z next
 unfoldable pub readRecords : ℕ → Net → ℕ → ℕ → List ℕ → Opening
 readRecords zero x next at bs = refusedOpening 1 at
 readRecords (suc k) x next at bs =
-    let r : Record = recordOf Image at bs in
+    let r : Record = recordOf inImage at bs in
     afterStep (λ z above. readRecords k z above (at + r .length) (drop (r .length) bs)) x at (placed x next (r .event))
 
 -- the first record, then the others; a record has at least one byte, so that there are not more records than bytes
@@ -117,4 +116,4 @@ started bs r FullRound = refusedOpening 2 0
 
 -- opening an image; what follows kind 0 is ignored
 unfoldable pub openOf : List ℕ → Opening
-openOf bs = started bs (recordOf Start 0 bs) (recordOf Start 0 bs .event)
+openOf bs = started bs (recordOf atStart 0 bs) (recordOf atStart 0 bs .event)

@@ -13,8 +13,6 @@ use Rattle.records.specs.declared.ArcChange.the-variants.{Set, Removed}
 use Rattle.records.specs.declared.Event.{Event}
 use Rattle.records.specs.declared.Event.the-variants.{End, Header, Change, Row, Report, Round, FullRound, Refusal}
 use Rattle.records.specs.declared.Record.{Record}
-use Rattle.records.specs.declared.Section.{Section}
-use Rattle.records.specs.declared.Section.the-variants.{Start, Image, Events}
 
 -- the body bytes of kinds 0 to 7, in order
 abbrev pub bodies : List ℕ
@@ -68,11 +66,17 @@ eventOf at k b =
     (cond (eqb k 6) FullRound
     (gradeChange at (num8 b 0) (num8 b 1) (num8 b 2))))))))
 
+-- where in a run a record stands: at its start, inside its image, or as an event after it
+pub data Section : Type 0 where
+  atStart : Section
+  inImage : Section
+  asEvent : Section
+
 -- the kinds that are allowed: 1 first; 0 and 2 to 4 inside an image; 2 and 5 to 7 as events
 unfoldable pub allowed : Section → ℕ → Bool
-allowed Start k = eqb k 1
-allowed Image k = eqb k 0 || (ltb 1 k && ltb k 5)
-allowed Events k = eqb k 2 || (ltb 4 k && ltb k 8)
+allowed atStart k = eqb k 1
+allowed inImage k = eqb k 0 || (ltb 1 k && ltb k 5)
+allowed asEvent k = eqb k 2 || (ltb 4 k && ltb k 8)
 
 -- the body of a record of kind k before the bytes b
 unfoldable pub bodyOf : ℕ → List ℕ → List ℕ

@@ -9,13 +9,12 @@ use Rattle.network.specs.Network.{Net, Outcome, outcome}
 use Rattle.network.specs.Change.{changeOf}
 use Rattle.network.specs.Round.{roundOf, fullRoundOf}
 use Rattle.records.specs.Numbers.{words}
-use Rattle.records.specs.Records.{bodyOf, recordOf}
+use Rattle.records.specs.Records.{asEvent, bodyOf, recordOf}
 use Rattle.records.specs.Opening.{Opening, openOf}
 use Rattle.records.specs.declared.ArcChange.the-variants.{Set, Removed}
 use Rattle.records.specs.declared.Event.{Event}
 use Rattle.records.specs.declared.Event.the-variants.{End, Header, Change, Row, Report, Round, FullRound, Refusal}
 use Rattle.records.specs.declared.Record.{Record}
-use Rattle.records.specs.declared.Section.the-variants.{Events}
 
 -- what an event with the body b does to x; a round's body is 32 words of marks
 unfoldable pub eventDone : Net → List ℕ → Event → Outcome
@@ -56,7 +55,7 @@ unfoldable pub readEvents : ℕ → Net → ℕ → ℕ → List ℕ → Running
 readEvents zero x rounds at bs = record { number = 0; place = 0; rounds = rounds; net = x }
 readEvents (suc k) x rounds at [] = record { number = 0; place = 0; rounds = rounds; net = x }
 readEvents (suc k) x rounds at (kind ∷ b) =
-    let r : Record = recordOf Events at (kind ∷ b) in
+    let r : Record = recordOf asEvent at (kind ∷ b) in
     afterEvent (λ z. readEvents k z (rounds + roundsIn (r .event)) (at + r .length) (drop (r .length) (kind ∷ b))) at rounds (eventDone x (bodyOf kind b) (r .event))
 
 -- with its image refused a run answers as opening does, with 0 rounds; an event has at least one byte

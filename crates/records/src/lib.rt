@@ -47,10 +47,3 @@ pub struct Record {
     pub event: Event,
     pub length: usize,
 }
-
-// Where in a run a record stands, which decides the kinds that are allowed: at its start, inside its image, after the image.
-pub enum Section {
-    Start,
-    Image,
-    Events,
-}

@@ -11,14 +11,13 @@ use Rattle.network.proofs.Effects.{outcome-number, outcome-same}
 use Rattle.memory.specs.Layout.{view}
 use Rattle.memory.specs.Answers.{Leaves}
 use Rattle.records.specs.Numbers.{words}
-use Rattle.records.specs.Records.{recordOf}
+use Rattle.records.specs.Records.{asEvent, recordOf}
 use Rattle.records.specs.Running.{eventDone, roundsIn}
 use Rattle.records.specs.declared.ArcChange.{ArcChange}
 use Rattle.records.specs.declared.ArcChange.the-variants.{Set, Removed}
 use Rattle.records.specs.declared.Event.{Event}
 use Rattle.records.specs.declared.Event.the-variants.{End, Header, Change, Row, Report, Round, FullRound, Refusal}
 use Rattle.records.specs.declared.Record.{Record}
-use Rattle.records.specs.declared.Section.the-variants.{Events}
 use Rattle.records.proofs.Reading.{by-outcome}
 
 -- a call that answers k and leaves the words
@@ -124,7 +123,7 @@ unfolding eventDone
 marks-round b {xs} {ms} {ys} {k} q h = subst (λ w. Leaves (roundOf (view xs) w) k xs ys) q h
 
 -- an accepted event has at least its kind byte
-pub accepted-long : (x : Net) (d : List ℕ) (at : ℕ) (s : List ℕ) → eventDone x d (recordOf Events at s .event) .number ≡ 0 → 0 < recordOf Events at s .length
+pub accepted-long : (x : Net) (d : List ℕ) (at : ℕ) (s : List ℕ) → eventDone x d (recordOf asEvent at s .event) .number ≡ 0 → 0 < recordOf asEvent at s .length
 accepted-long x d at s =
-    by-outcome (λ (r : Record). eventDone x d (r .event) .number ≡ 0 → 0 < r .length) Events at s
+    by-outcome (λ (r : Record). eventDone x d (r .event) .number ≡ 0 → 0 < r .length) asEvent at s
     (λ q. omega (arith, refusal-number x d 1 at, q)) (λ q. omega (arith, refusal-number x d 2 at, q)) (λ k b e a h q. omega arith)

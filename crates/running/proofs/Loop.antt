@@ -11,10 +11,9 @@ use lib.Seq.{drop-cons, drop-drop}
 use borrow.Author.Tests.{eq-eqb, ne-eqb}
 use Rattle.network.specs.Network.{Net, Outcome}
 use Rattle.memory.specs.Layout.{view}
-use Rattle.records.specs.Records.{bodyOf, recordOf}
+use Rattle.records.specs.Records.{asEvent, bodyOf, recordOf}
 use Rattle.records.specs.Running.{Running, eventDone, roundsIn, afterEvent, readEvents}
 use Rattle.records.specs.declared.Record.{Record}
-use Rattle.records.specs.declared.Section.the-variants.{Events}
 use Rattle.records.proofs.Reading.{length-within, round-within, round-body}
 use Rattle.running.specs.Inner.{marksAt, Inside, eventsFrom, Finishes}
 use Rattle.running.proofs.Events.{Does, same-body, one-round, accepted-long}
@@ -34,23 +33,23 @@ begin s x at h = record { fuel = length s; enough = omega arith; within = h; few
 
 -- the record at `at`
 abbrev pub recordAt : List ℕ → ℕ → Record
-recordAt s at = recordOf Events at (drop at s)
+recordAt s at = recordOf asEvent at (drop at s)
 
 -- a round's record lies inside the input
 pub round-at : (s : List ℕ) (at : ℕ) (r : Record) → r ≡ recordAt s at → Inside (r .event) at s
 round-at s at r e q =
-    let h = round-within Events at (drop at s) (ap (λ (t : Record). t .event) (sym e) ∙ q) in omega (arith, length-drop at s)
+    let h = round-within asEvent at (drop at s) (ap (λ (t : Record). t .event) (sym e) ∙ q) in omega (arith, length-drop at s)
 
 -- the event at the front of the bytes t, whose kind byte the bytes b follow, and the events after it
 abbrev stepped : ℕ → Net → ℕ → ℕ → List ℕ → List ℕ → Running
 stepped g x rounds at b t =
-    let r : Record = recordOf Events at t in
+    let r : Record = recordOf asEvent at t in
     afterEvent (λ z. readEvents g z (rounds + roundsIn (r .event)) (at + r .length) (drop (r .length) t)) at rounds (eventDone x (take 128 b) (r .event))
 
 -- so the definition reads
 cons-step : (g : ℕ) (x : Net) (rounds at kind : ℕ) (b : List ℕ) → readEvents (suc g) x rounds at (kind ∷ b) ≡ stepped g x rounds at b (kind ∷ b)
 unfolding readEvents
-cons-step g x rounds at kind b = ap (afterEvent _ at rounds) (same-body x (bodyOf kind b) (take 128 b) _ (round-body Events at kind b))
+cons-step g x rounds at kind b = ap (afterEvent _ at rounds) (same-body x (bodyOf kind b) (take 128 b) _ (round-body asEvent at kind b))
 
 -- and so at a place of the input
 step-at : (s : List ℕ) (g : ℕ) (x : Net) (rounds at : ℕ) → at < length s → readEvents (suc g) x rounds at (drop at s) ≡ stepped g x rounds at (drop (at + 1) s) (drop at s)
@@ -120,7 +119,7 @@ module _ {s : List ℕ} {o : Running} {xs : List ℕ} {rounds at : ℕ} (rest : 
         let m = one-more (rest .fuel) (rest .enough) (rest .same) in
         let n : r .length ≡ recordAt s at .length = ap (λ (t : Record). t .length) read in
         let a = accepted-long (view xs) (marksAt at s) at (drop at s) z in
-        let b = length-within Events at (drop at s) in
+        let b = length-within asEvent at (drop at s) in
         let d = length-drop at s in
         let c : at + r .length ≤ length s = omega arith in (
           record {

@@ -14,14 +14,13 @@ use Rattle.network.specs.Network.{Net, Outcome, outcome, Within}
 use Rattle.network.proofs.Effects.{outcome-same}
 use Rattle.network.specs.Round.{Marks, marked}
 use Rattle.records.specs.Numbers.{Bytes, words}
-use Rattle.records.specs.Records.{bodyOf, recordOf}
+use Rattle.records.specs.Records.{asEvent, bodyOf, recordOf}
 use Rattle.records.specs.Opening.{openOf}
 use Rattle.records.specs.Running.{eventDone, roundsIn, Running, afterEvent, readEvents, runFrom, runOf}
 use Rattle.records.specs.declared.ArcChange.the-variants.{Set, Removed}
 use Rattle.records.specs.declared.Event.{Event}
 use Rattle.records.specs.declared.Event.the-variants as E
 use Rattle.records.specs.declared.Record.{Record}
-use Rattle.records.specs.declared.Section.the-variants.{Events}
 use Rattle.records.proofs.Opened.{open-within}
 use Rattle.settling.specs.Calls.{Call, change, grade, round, fullRound, route, writeImage, called, accepted, after, marksThen, rounds}
 use Rattle.settling.proofs.CallLaws.{called-refused, after-within}
@@ -112,7 +111,7 @@ events-as (suc k) x n at [] = no-calls x n _ refl refl
 events-as (suc k) x n at (kind ∷ b) = go (eq-or-ne (o .number) 0) (events-as k)
   where
     r : Record
-    r = recordOf Events at (kind ∷ b)
+    r = recordOf asEvent at (kind ∷ b)
 
     o : Outcome
     o = eventDone x (bodyOf kind b) (r .event)

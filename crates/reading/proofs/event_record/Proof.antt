@@ -5,8 +5,7 @@ use mathlib.Core.Path.{refl, ap, _∙_}
 use native.Mathlib.Nat.{add-sub-cancel-left}
 use native.Mathlib.Omega.{arith}
 use denote.Ref.{now}
-use Rattle.records.specs.Records.{allowed}
-use Rattle.records.specs.declared.Section.the-variants.{Events}
+use Rattle.records.specs.Records.{asEvent, allowed}
 use Rattle.reading.proofs.ByKind.{arc-kind, full-round-kind, grade-kind, round-kind, other-kinds, missing, cut, whole, other}
 use Rattle.reading.proofs.event_record.Statement.{statement}
 use Rattle.reading.proofs.event_record.Tie as tie
@@ -17,7 +16,7 @@ refused-requires c κs = search needs
 returns : tie.Need-returns
 returns c =
     let a = c .before .before .before .args in
-    c .refused .ensures ∙ missing (now (a .input)) (a .at) Events (c .before .if1 .taken)
+    c .refused .ensures ∙ missing (now (a .input)) (a .at) asEvent (c .before .if1 .taken)
 
 shared-slice-read-kind : tie.Need-shared-slice-read-kind
 shared-slice-read-kind c = search needs
@@ -41,7 +40,7 @@ returns-2 : tie.Need-returns-2
 unfolding allowed
 returns-2 c =
     let a = c .before .before .before .before .before .before .args in
-    c .refused4 .ensures ∙ cut (now (a .input)) (a .at) Events (c .before .before .before .before .if1 .left) arc-kind refl (c .before .before .match .keys3) (omega arith)
+    c .refused4 .ensures ∙ cut (now (a .input)) (a .at) asEvent (c .before .before .before .before .if1 .left) arc-kind refl (c .before .before .match .keys3) (omega arith)
 
 add-arc-body : tie.Need-add-arc-body
 add-arc-body c = search needs
@@ -71,7 +70,7 @@ returns-3 : tie.Need-returns-3
 unfolding allowed
 returns-3 c =
     let a = c .before .before .before .before .before .before .args in
-    c .refused7 .ensures ∙ cut (now (a .input)) (a .at) Events (c .before .before .before .before .if1 .left) round-kind refl (c .before .before .match .keys6) (omega arith)
+    c .refused7 .ensures ∙ cut (now (a .input)) (a .at) asEvent (c .before .before .before .before .if1 .left) round-kind refl (c .before .before .match .keys6) (omega arith)
 
 refused-requires-8 : tie.Need-refused-requires-8
 refused-requires-8 c κs = search needs
@@ -80,7 +79,7 @@ returns-4 : tie.Need-returns-4
 unfolding allowed
 returns-4 c =
     let a = c .before .before .before .before .before .before .args in
-    c .refused8 .ensures ∙ cut (now (a .input)) (a .at) Events (c .before .before .before .before .if1 .left) grade-kind refl (c .before .before .match .keys8) (omega arith)
+    c .refused8 .ensures ∙ cut (now (a .input)) (a .at) asEvent (c .before .before .before .before .if1 .left) grade-kind refl (c .before .before .match .keys8) (omega arith)
 
 add-grade-body : tie.Need-add-grade-body
 add-grade-body c = search needs
@@ -104,56 +103,56 @@ returns-5 : tie.Need-returns-5
 unfolding allowed
 returns-5 c =
     let a = c .before .before .before .before .before .args in
-    c .refused2 .ensures ∙ other (now (a .input)) (a .at) Events (c .before .before .before .if1 .left) (ap (allowed Events) (c .before .match .keys1))
+    c .refused2 .ensures ∙ other (now (a .input)) (a .at) asEvent (c .before .before .before .if1 .left) (ap (allowed asEvent) (c .before .match .keys1))
 
 returns-6 : tie.Need-returns-6
 unfolding allowed
 returns-6 c =
     let a = c .before .before .before .before .before .args in
-    c .refused3 .ensures ∙ other (now (a .input)) (a .at) Events (c .before .before .before .if1 .left) (ap (allowed Events) (c .before .match .keys2))
+    c .refused3 .ensures ∙ other (now (a .input)) (a .at) asEvent (c .before .before .before .if1 .left) (ap (allowed asEvent) (c .before .match .keys2))
 
 returns-7 : tie.Need-returns-7
 unfolding allowed
 returns-7 c =
     let a = c .before .before .before .before .before .before .before .args in
-    whole (now (a .input)) (a .at) Events (c .before .before .before .before .before .if1 .left) arc-kind refl (c .before .before .before .match .keys3) (omega arith) _
+    whole (now (a .input)) (a .at) asEvent (c .before .before .before .before .before .if1 .left) arc-kind refl (c .before .before .before .match .keys3) (omega arith) _
     (rw add-sub-cancel-left at (c .arc-body .ensures))
 
 returns-8 : tie.Need-returns-8
 unfolding allowed
 returns-8 c =
     let a = c .before .before .before .before .before .args in
-    c .refused5 .ensures ∙ other (now (a .input)) (a .at) Events (c .before .before .before .if1 .left) (ap (allowed Events) (c .before .match .keys4))
+    c .refused5 .ensures ∙ other (now (a .input)) (a .at) asEvent (c .before .before .before .if1 .left) (ap (allowed asEvent) (c .before .match .keys4))
 
 returns-9 : tie.Need-returns-9
 unfolding allowed
 returns-9 c =
     let a = c .before .before .before .before .before .args in
-    c .refused6 .ensures ∙ other (now (a .input)) (a .at) Events (c .before .before .before .if1 .left) (ap (allowed Events) (c .before .match .keys5))
+    c .refused6 .ensures ∙ other (now (a .input)) (a .at) asEvent (c .before .before .before .if1 .left) (ap (allowed asEvent) (c .before .match .keys5))
 
 returns-10 : tie.Need-returns-10
 unfolding allowed
 returns-10 c =
     let a = c .before .before .before .before .before .args in
-    whole (now (a .input)) (a .at) Events (c .before .before .before .if1 .left) round-kind refl (c .before .match .keys6) (omega arith) _ refl
+    whole (now (a .input)) (a .at) asEvent (c .before .before .before .if1 .left) round-kind refl (c .before .match .keys6) (omega arith) _ refl
 
 returns-11 : tie.Need-returns-11
 unfolding allowed
 returns-11 c =
     let a = c .before .before .before .before .args in
-    whole (now (a .input)) (a .at) Events (c .before .before .if1 .left) full-round-kind refl (c .match .keys7) (omega arith) _ refl
+    whole (now (a .input)) (a .at) asEvent (c .before .before .if1 .left) full-round-kind refl (c .match .keys7) (omega arith) _ refl
 
 returns-12 : tie.Need-returns-12
 unfolding allowed
 returns-12 c =
     let a = c .before .before .before .before .before .before .before .args in
-    whole (now (a .input)) (a .at) Events (c .before .before .before .before .before .if1 .left) grade-kind refl (c .before .before .before .match .keys8) (omega arith) _
+    whole (now (a .input)) (a .at) asEvent (c .before .before .before .before .before .if1 .left) grade-kind refl (c .before .before .before .match .keys8) (omega arith) _
     (rw add-sub-cancel-left at (c .grade-body .ensures))
 
 returns-13 : tie.Need-returns-13
 returns-13 c =
     let a = c .before .before .before .before .before .args in
-    c .refused9 .ensures ∙ other (now (a .input)) (a .at) Events (c .before .before .before .if1 .left) (other-kinds Events _ (c .before .match .rest))
+    c .refused9 .ensures ∙ other (now (a .input)) (a .at) asEvent (c .before .before .before .if1 .left) (other-kinds asEvent _ (c .before .match .rest))
 
 pub event-record-spec : {M : Type 1} → statement M
 event-record-spec =

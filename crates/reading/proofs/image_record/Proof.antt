@@ -5,8 +5,7 @@ use mathlib.Core.Path.{refl, ap, _∙_}
 use native.Mathlib.Nat.{add-sub-cancel-left}
 use native.Mathlib.Omega.{arith}
 use denote.Ref.{now}
-use Rattle.records.specs.Records.{allowed}
-use Rattle.records.specs.declared.Section.the-variants.{Image}
+use Rattle.records.specs.Records.{inImage, allowed}
 use Rattle.reading.proofs.ByKind.{arc-kind, end-kind, report-kind, row-kind, other-kinds, missing, cut, whole, other}
 use Rattle.reading.proofs.image_record.Statement.{statement}
 use Rattle.reading.proofs.image_record.Tie as tie
@@ -17,7 +16,7 @@ refused-requires c κs = search needs
 returns : tie.Need-returns
 returns c =
     let a = c .before .before .before .args in
-    c .refused .ensures ∙ missing (now (a .input)) (a .at) Image (c .before .if1 .taken)
+    c .refused .ensures ∙ missing (now (a .input)) (a .at) inImage (c .before .if1 .taken)
 
 shared-slice-read-kind : tie.Need-shared-slice-read-kind
 shared-slice-read-kind c = search needs
@@ -38,7 +37,7 @@ returns-2 : tie.Need-returns-2
 unfolding allowed
 returns-2 c =
     let a = c .before .before .before .before .before .before .args in
-    c .refused3 .ensures ∙ cut (now (a .input)) (a .at) Image (c .before .before .before .before .if1 .left) arc-kind refl (c .before .before .match .keys3) (omega arith)
+    c .refused3 .ensures ∙ cut (now (a .input)) (a .at) inImage (c .before .before .before .before .if1 .left) arc-kind refl (c .before .before .match .keys3) (omega arith)
 
 add-arc-body : tie.Need-add-arc-body
 add-arc-body c = search needs
@@ -62,7 +61,7 @@ returns-3 : tie.Need-returns-3
 unfolding allowed
 returns-3 c =
     let a = c .before .before .before .before .before .before .args in
-    c .refused4 .ensures ∙ cut (now (a .input)) (a .at) Image (c .before .before .before .before .if1 .left) row-kind refl (c .before .before .match .keys4) (omega arith)
+    c .refused4 .ensures ∙ cut (now (a .input)) (a .at) inImage (c .before .before .before .before .if1 .left) row-kind refl (c .before .before .match .keys4) (omega arith)
 
 add-row-body : tie.Need-add-row-body
 add-row-body c = search needs
@@ -86,7 +85,7 @@ returns-4 : tie.Need-returns-4
 unfolding allowed
 returns-4 c =
     let a = c .before .before .before .before .before .before .args in
-    c .refused5 .ensures ∙ cut (now (a .input)) (a .at) Image (c .before .before .before .before .if1 .left) report-kind refl (c .before .before .match .keys5) (omega arith)
+    c .refused5 .ensures ∙ cut (now (a .input)) (a .at) inImage (c .before .before .before .before .if1 .left) report-kind refl (c .before .before .match .keys5) (omega arith)
 
 add-report-body : tie.Need-add-report-body
 add-report-body c = search needs
@@ -119,57 +118,57 @@ returns-5 : tie.Need-returns-5
 unfolding allowed
 returns-5 c =
     let a = c .before .before .before .before .args in
-    whole (now (a .input)) (a .at) Image (c .before .before .if1 .left) end-kind refl (c .match .keys1) (omega arith) _ refl
+    whole (now (a .input)) (a .at) inImage (c .before .before .if1 .left) end-kind refl (c .match .keys1) (omega arith) _ refl
 
 returns-6 : tie.Need-returns-6
 unfolding allowed
 returns-6 c =
     let a = c .before .before .before .before .before .args in
-    c .refused2 .ensures ∙ other (now (a .input)) (a .at) Image (c .before .before .before .if1 .left) (ap (allowed Image) (c .before .match .keys2))
+    c .refused2 .ensures ∙ other (now (a .input)) (a .at) inImage (c .before .before .before .if1 .left) (ap (allowed inImage) (c .before .match .keys2))
 
 returns-7 : tie.Need-returns-7
 unfolding allowed
 returns-7 c =
     let a = c .before .before .before .before .before .before .before .args in
-    whole (now (a .input)) (a .at) Image (c .before .before .before .before .before .if1 .left) arc-kind refl (c .before .before .before .match .keys3) (omega arith) _
+    whole (now (a .input)) (a .at) inImage (c .before .before .before .before .before .if1 .left) arc-kind refl (c .before .before .before .match .keys3) (omega arith) _
     (rw add-sub-cancel-left at (c .arc-body .ensures))
 
 returns-8 : tie.Need-returns-8
 unfolding allowed
 returns-8 c =
     let a = c .before .before .before .before .before .before .before .args in
-    whole (now (a .input)) (a .at) Image (c .before .before .before .before .before .if1 .left) row-kind refl (c .before .before .before .match .keys4) (omega arith) _
+    whole (now (a .input)) (a .at) inImage (c .before .before .before .before .before .if1 .left) row-kind refl (c .before .before .before .match .keys4) (omega arith) _
     (rw add-sub-cancel-left at (c .row-body .ensures))
 
 returns-9 : tie.Need-returns-9
 unfolding allowed
 returns-9 c =
     let a = c .before .before .before .before .before .before .before .args in
-    whole (now (a .input)) (a .at) Image (c .before .before .before .before .before .if1 .left) report-kind refl (c .before .before .before .match .keys5) (omega arith) _
+    whole (now (a .input)) (a .at) inImage (c .before .before .before .before .before .if1 .left) report-kind refl (c .before .before .before .match .keys5) (omega arith) _
     (rw add-sub-cancel-left at (c .report-body .ensures))
 
 returns-10 : tie.Need-returns-10
 unfolding allowed
 returns-10 c =
     let a = c .before .before .before .before .before .args in
-    c .refused6 .ensures ∙ other (now (a .input)) (a .at) Image (c .before .before .before .if1 .left) (ap (allowed Image) (c .before .match .keys6))
+    c .refused6 .ensures ∙ other (now (a .input)) (a .at) inImage (c .before .before .before .if1 .left) (ap (allowed inImage) (c .before .match .keys6))
 
 returns-11 : tie.Need-returns-11
 unfolding allowed
 returns-11 c =
     let a = c .before .before .before .before .before .args in
-    c .refused7 .ensures ∙ other (now (a .input)) (a .at) Image (c .before .before .before .if1 .left) (ap (allowed Image) (c .before .match .keys7))
+    c .refused7 .ensures ∙ other (now (a .input)) (a .at) inImage (c .before .before .before .if1 .left) (ap (allowed inImage) (c .before .match .keys7))
 
 returns-12 : tie.Need-returns-12
 unfolding allowed
 returns-12 c =
     let a = c .before .before .before .before .before .args in
-    c .refused8 .ensures ∙ other (now (a .input)) (a .at) Image (c .before .before .before .if1 .left) (ap (allowed Image) (c .before .match .keys8))
+    c .refused8 .ensures ∙ other (now (a .input)) (a .at) inImage (c .before .before .before .if1 .left) (ap (allowed inImage) (c .before .match .keys8))
 
 returns-13 : tie.Need-returns-13
 returns-13 c =
     let a = c .before .before .before .before .before .args in
-    c .refused9 .ensures ∙ other (now (a .input)) (a .at) Image (c .before .before .before .if1 .left) (other-kinds Image _ (c .before .match .rest))
+    c .refused9 .ensures ∙ other (now (a .input)) (a .at) inImage (c .before .before .before .if1 .left) (other-kinds inImage _ (c .before .match .rest))
 
 pub image-record-spec : {M : Type 1} → statement M
 image-record-spec =

@@ -4,8 +4,7 @@ use borrow.Author.Needs.{needs}
 use mathlib.Core.Path.{refl, ap, _∙_}
 use native.Mathlib.Omega.{arith}
 use denote.Ref.{now}
-use Rattle.records.specs.Records.{allowed}
-use Rattle.records.specs.declared.Section.the-variants.{Start}
+use Rattle.records.specs.Records.{atStart, allowed}
 use Rattle.reading.proofs.ByKind.{header-kind, other-kinds, missing, cut, whole, other}
 use Rattle.reading.proofs.start_record.Statement.{statement}
 use Rattle.reading.proofs.start_record.Tie as tie
@@ -16,7 +15,7 @@ refused-requires c κs = search needs
 returns : tie.Need-returns
 returns c =
     let a = c .before .before .before .args in
-    c .refused .ensures ∙ missing (now (a .input)) 0 Start (omega arith)
+    c .refused .ensures ∙ missing (now (a .input)) 0 atStart (omega arith)
 
 shared-slice-read-kind : tie.Need-shared-slice-read-kind
 shared-slice-read-kind c = search needs
@@ -34,7 +33,7 @@ returns-2 : tie.Need-returns-2
 unfolding allowed
 returns-2 c =
     let a = c .before .before .before .before .before .before .args in
-    c .refused3 .ensures ∙ cut (now (a .input)) 0 Start (omega arith) header-kind refl (c .before .before .match .keys2) (omega arith)
+    c .refused3 .ensures ∙ cut (now (a .input)) 0 atStart (omega arith) header-kind refl (c .before .before .match .keys2) (omega arith)
 
 sub-header-body : tie.Need-sub-header-body
 sub-header-body c = search needs
@@ -73,55 +72,55 @@ returns-3 : tie.Need-returns-3
 unfolding allowed
 returns-3 c =
     let a = c .before .before .before .before .before .args in
-    c .refused2 .ensures ∙ other (now (a .input)) 0 Start (omega arith) (ap (allowed Start) (c .before .match .keys1))
+    c .refused2 .ensures ∙ other (now (a .input)) 0 atStart (omega arith) (ap (allowed atStart) (c .before .match .keys1))
 
 returns-4 : tie.Need-returns-4
 unfolding allowed
 returns-4 c =
     let a = c .before .before .before .before .before .before .before .args in
-    whole (now (a .input)) 0 Start (omega arith) header-kind refl (c .before .before .before .match .keys2) (omega arith) _
+    whole (now (a .input)) 0 atStart (omega arith) header-kind refl (c .before .before .before .match .keys2) (omega arith) _
     (c .header-body .ensures)
 
 returns-5 : tie.Need-returns-5
 unfolding allowed
 returns-5 c =
     let a = c .before .before .before .before .before .args in
-    c .refused4 .ensures ∙ other (now (a .input)) 0 Start (omega arith) (ap (allowed Start) (c .before .match .keys3))
+    c .refused4 .ensures ∙ other (now (a .input)) 0 atStart (omega arith) (ap (allowed atStart) (c .before .match .keys3))
 
 returns-6 : tie.Need-returns-6
 unfolding allowed
 returns-6 c =
     let a = c .before .before .before .before .before .args in
-    c .refused5 .ensures ∙ other (now (a .input)) 0 Start (omega arith) (ap (allowed Start) (c .before .match .keys4))
+    c .refused5 .ensures ∙ other (now (a .input)) 0 atStart (omega arith) (ap (allowed atStart) (c .before .match .keys4))
 
 returns-7 : tie.Need-returns-7
 unfolding allowed
 returns-7 c =
     let a = c .before .before .before .before .before .args in
-    c .refused6 .ensures ∙ other (now (a .input)) 0 Start (omega arith) (ap (allowed Start) (c .before .match .keys5))
+    c .refused6 .ensures ∙ other (now (a .input)) 0 atStart (omega arith) (ap (allowed atStart) (c .before .match .keys5))
 
 returns-8 : tie.Need-returns-8
 unfolding allowed
 returns-8 c =
     let a = c .before .before .before .before .before .args in
-    c .refused7 .ensures ∙ other (now (a .input)) 0 Start (omega arith) (ap (allowed Start) (c .before .match .keys6))
+    c .refused7 .ensures ∙ other (now (a .input)) 0 atStart (omega arith) (ap (allowed atStart) (c .before .match .keys6))
 
 returns-9 : tie.Need-returns-9
 unfolding allowed
 returns-9 c =
     let a = c .before .before .before .before .before .args in
-    c .refused8 .ensures ∙ other (now (a .input)) 0 Start (omega arith) (ap (allowed Start) (c .before .match .keys7))
+    c .refused8 .ensures ∙ other (now (a .input)) 0 atStart (omega arith) (ap (allowed atStart) (c .before .match .keys7))
 
 returns-10 : tie.Need-returns-10
 unfolding allowed
 returns-10 c =
     let a = c .before .before .before .before .before .args in
-    c .refused9 .ensures ∙ other (now (a .input)) 0 Start (omega arith) (ap (allowed Start) (c .before .match .keys8))
+    c .refused9 .ensures ∙ other (now (a .input)) 0 atStart (omega arith) (ap (allowed atStart) (c .before .match .keys8))
 
 returns-11 : tie.Need-returns-11
 returns-11 c =
     let a = c .before .before .before .before .before .args in
-    c .refused10 .ensures ∙ other (now (a .input)) 0 Start (omega arith) (other-kinds Start _ (c .before .match .rest))
+    c .refused10 .ensures ∙ other (now (a .input)) 0 atStart (omega arith) (other-kinds atStart _ (c .before .match .rest))
 
 pub start-record-spec : {M : Type 1} → statement M
 start-record-spec =
