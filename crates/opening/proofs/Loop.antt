@@ -1,7 +1,6 @@
 -- The loop that reads an image's records: what holds at its head, and what each way on gives.
 -- Assumes nothing.
 use mathlib.Core.Path.{_≡_, refl, sym, ap, _∙_}
-use mathlib.Core.Logic.{_≢_}
 use mathlib.Core.List.{List}
 use Prim.Native.Nat.{ℕ, zero, suc, _+_, _-_, _<_, _≤_}
 use native.Mathlib.Omega.{arith}
@@ -9,10 +8,9 @@ use lib.ListN.{length, drop, length-drop}
 use lib.Seq.{drop-drop}
 use Rattle.network.specs.Network.{Net}
 use Rattle.records.specs.Records.{inImage, recordOf}
-use Rattle.records.specs.Opening.{Step, stop, onward, placed, Opening, afterStep, readRecords}
-use Rattle.records.specs.declared.Event.{Event}
-use Rattle.records.specs.declared.Event.the-variants.{Refusal}
+use Rattle.records.specs.Opening.{Step, placed, Opening, afterStep, readRecords}
 use Rattle.records.specs.declared.Record.{Record}
+use Rattle.records.proofs.Enough.{onward-read}
 use Rattle.records.proofs.Reading.{length-within, length-some}
 use Rattle.opening.specs.declared.Next.{Next}
 use Rattle.opening.specs.declared.Next.the-variants.{Stopped, Finished, Onward}
@@ -28,14 +26,6 @@ pub record Going (whole : Opening) (s : List ℕ) (x : Net) (next at : ℕ) : Ty
 
 pub begin : (s : List ℕ) (x : Net) (start : ℕ) → 0 < start → start ≤ length s → Going (readRecords (length s) x 0 start (drop start s)) s x 0 start
 begin s x start p h = record { fuel = length s; enough = omega arith; within = h; same = refl }
-
--- a refusal does not lead onward
-onward-read : (x : Net) (next : ℕ) (e : Event) (z : Net) (k : ℕ) → onward z k ≡ placed x next e → (i p : ℕ) → e ≢ Refusal i p
-unfolding placed
-onward-read x next e z k q i p h =
-    let w : onward z k ≡ stop i = q ∙ ap (placed x next) h in
-    let v : _≡_ {A = ℕ} 0 1 = cc in
-    omega arith
 
 -- the record at the head, read as c and placed, led to r and the network z
 module _ (whole : Opening) (s : List ℕ) (x : Net) (next at : ℕ) (g : Going whole s x next at) (c : Record) (is : c ≡ recordOf inImage at (drop at s))

@@ -11,3 +11,4 @@ pub mod Opened
 pub mod ImageBytes
 pub mod Reading
 pub mod Grading
+pub mod Enough

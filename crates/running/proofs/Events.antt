@@ -2,7 +2,7 @@
 -- Assumes nothing.
 use mathlib.Core.Path.{_≡_, refl, sym, ap, subst, _∙_}
 use mathlib.Core.List.{List, []}
-use Prim.Native.Nat.{ℕ, _<_, _≤_}
+use Prim.Native.Nat.{ℕ, _≤_}
 use native.Mathlib.Omega.{arith}
 use Rattle.network.specs.Network.{Net, outcome}
 use Rattle.network.specs.Change.{changeOf}
@@ -11,14 +11,11 @@ use Rattle.network.proofs.Effects.{outcome-number, outcome-same}
 use Rattle.memory.specs.Layout.{view}
 use Rattle.memory.specs.Answers.{Leaves}
 use Rattle.records.specs.Numbers.{words}
-use Rattle.records.specs.Records.{asEvent, recordOf}
 use Rattle.records.specs.Running.{eventDone, roundsIn}
 use Rattle.records.specs.declared.ArcChange.{ArcChange}
 use Rattle.records.specs.declared.ArcChange.the-variants.{Set, Removed}
 use Rattle.records.specs.declared.Event.{Event}
 use Rattle.records.specs.declared.Event.the-variants.{End, Header, Change, Row, Report, Round, FullRound, Refusal}
-use Rattle.records.specs.declared.Record.{Record}
-use Rattle.records.proofs.Reading.{by-outcome}
 
 -- a call that answers k and leaves the words
 still : (k : ℕ) (xs : List ℕ) → Leaves (outcome k (view xs) (view xs)) k xs xs
@@ -71,11 +68,6 @@ one-round (Header n o) = omega arith
 one-round (Row y d p l) = omega arith
 one-round (Report s r d l) = omega arith
 
--- a refusal stops with its number
-pub refusal-number : (x : Net) (b : List ℕ) (e p : ℕ) → eventDone x b (Refusal e p) .number ≡ e
-unfolding eventDone
-refusal-number x b e p = outcome-number e x x
-
 module _ (b : List ℕ) {xs : List ℕ} {e : Event} where
   module _ {k : ℕ} {ys : List ℕ} where
     -- from what the event is known to be
@@ -121,9 +113,3 @@ pub marks-round : (b : List ℕ) {xs ms ys : List ℕ} {k : ℕ} → ms ≡ word
     → Leaves (eventDone (view xs) b Round) k xs ys
 unfolding eventDone
 marks-round b {xs} {ms} {ys} {k} q h = subst (λ w. Leaves (roundOf (view xs) w) k xs ys) q h
-
--- an accepted event has at least its kind byte
-pub accepted-long : (x : Net) (d : List ℕ) (at : ℕ) (s : List ℕ) → eventDone x d (recordOf asEvent at s .event) .number ≡ 0 → 0 < recordOf asEvent at s .length
-accepted-long x d at s =
-    by-outcome (λ (r : Record). eventDone x d (r .event) .number ≡ 0 → 0 < r .length) asEvent at s
-    (λ q. omega (arith, refusal-number x d 1 at, q)) (λ q. omega (arith, refusal-number x d 2 at, q)) (λ k b e a h q. omega arith)

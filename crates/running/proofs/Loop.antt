@@ -14,9 +14,10 @@ use Rattle.memory.specs.Layout.{view}
 use Rattle.records.specs.Records.{asEvent, bodyOf, recordOf}
 use Rattle.records.specs.Running.{Running, eventDone, roundsIn, afterEvent, readEvents}
 use Rattle.records.specs.declared.Record.{Record}
+use Rattle.records.proofs.Enough.{accepted-long}
 use Rattle.records.proofs.Reading.{length-within, round-within, round-body}
 use Rattle.running.specs.Inner.{marksAt, Inside, eventsFrom, Finishes}
-use Rattle.running.proofs.Events.{Does, same-body, one-round, accepted-long}
+use Rattle.running.proofs.Events.{Does, same-body, one-round}
 
 -- the rest of the events of s, from the place `at` on, gives the whole
 pub record Rest (s : List ℕ) (o : Running) (x : Net) (rounds at : ℕ) : Type 0 where
