@@ -63,7 +63,7 @@ accepted-long x d at s =
     (λ q. omega (arith, refusal-number x d 1 at, q)) (λ q. omega (arith, refusal-number x d 2 at, q)) (λ k b e a h q. omega arith)
 
 -- no bytes, no event
-no-event : (k : ℕ) (x : Net) (n at : ℕ) → readEvents k x n at [] ≡ record { number = 0; place = 0; rounds = n; net = x }
+pub no-event : (k : ℕ) (x : Net) (n at : ℕ) → readEvents k x n at [] ≡ record { number = 0; place = 0; rounds = n; net = x }
 unfolding readEvents
 no-event zero x n at = refl
 no-event (suc k) x n at = refl

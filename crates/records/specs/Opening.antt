@@ -61,7 +61,7 @@ pub data Step : Type 0 where
 unfoldable pub judged : ℕ → Net → ℕ → Step
 judged e z k = cond (eqb e 0) (onward z (suc k)) (stop e)
 
--- a record on the network x; in an image cost 0 is refused as 3
+-- a record on the network x; in an image cost 0 is refused as 3; other kinds were refused as 2 when the record was read
 unfoldable pub placed : Net → ℕ → Event → Step
 placed x next End = finish
 placed x next (Header n o) = stop 2
@@ -103,7 +103,8 @@ readRecords (suc k) x next at bs =
     let r : Record = recordOf inImage at bs in
     afterStep (λ z above. readRecords k z above (at + r .length) (drop (r .length) bs)) x at (placed x next (r .event))
 
--- the first record, then the others; a record has at least one byte, so that there are not more records than bytes
+-- the first record, then the others; a record has at least one byte, so that there are not more records than bytes; other kinds were refused
+-- as 2 when the record was read
 unfoldable pub started : List ℕ → Record → Event → Opening
 started bs r (Header n o) = cond (eqb (freshNumber n o) 0) (readRecords (length bs) (freshNet n o) 0 (r .length) (drop (r .length) bs)) (refusedOpening (freshNumber n o) 0)
 started bs r (Refusal e p) = refusedOpening e p

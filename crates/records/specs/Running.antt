@@ -16,7 +16,7 @@ use Rattle.records.specs.declared.Event.{Event}
 use Rattle.records.specs.declared.Event.the-variants.{End, Header, Change, Row, Report, Round, FullRound, Refusal}
 use Rattle.records.specs.declared.Record.{Record}
 
--- what an event with the body b does to x; a round's body is 32 words of marks
+-- what an event with the body b does to x; a round's body is 32 words of marks; other kinds were refused as 2 when the record was read
 unfoldable pub eventDone : Net → List ℕ → Event → Outcome
 eventDone x b (Change (Set s r c)) = changeOf x s r c
 eventDone x b (Change (Removed s r)) = changeOf x s r 0

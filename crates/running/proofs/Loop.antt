@@ -2,7 +2,7 @@
 -- Assumes nothing.
 use mathlib.Core.Path.{_≡_, refl, sym, ap, subst, _∙_}
 use mathlib.Core.Logic.{_≢_}
-use mathlib.Core.List.{List, [], _∷_}
+use mathlib.Core.List.{List, _∷_}
 use Prim.Native.Nat.{ℕ, zero, suc, _+_, _-_, _<_, _≤_}
 use native.Mathlib.Omega.{arith}
 use native.Mathlib.Numerals.{add-one}
@@ -14,7 +14,7 @@ use Rattle.memory.specs.Layout.{view}
 use Rattle.records.specs.Records.{asEvent, bodyOf, recordOf}
 use Rattle.records.specs.Running.{Running, eventDone, roundsIn, afterEvent, readEvents}
 use Rattle.records.specs.declared.Record.{Record}
-use Rattle.records.proofs.Enough.{accepted-long}
+use Rattle.records.proofs.Enough.{no-event, accepted-long}
 use Rattle.records.proofs.Reading.{length-within, round-within, round-body}
 use Rattle.running.specs.Inner.{marksAt, Inside, eventsFrom, Finishes}
 use Rattle.running.proofs.Events.{Does, same-body, one-round}
@@ -68,12 +68,6 @@ gone-on : (go : Net → Running) (at rounds : ℕ) (o : Outcome) → o .number �
 unfolding afterEvent
 gone-on go at rounds o e = rw (eq-eqb (o .number) 0 e)
 
--- no bytes, no event
-nothing : (k : ℕ) (x : Net) (rounds at : ℕ) → readEvents k x rounds at [] ≡ record { number = 0; place = 0; rounds = rounds; net = x }
-unfolding readEvents
-nothing zero x rounds at = refl
-nothing (suc k) x rounds at = refl
-
 -- what the parts of an answer say
 finishes : (o : Running) (number place rounds : ℕ) (ys : List ℕ) → o ≡ record { number = number; place = place; rounds = rounds; net = view ys }
     → Finishes o (record { number = number; place = place; rounds = rounds }) ys
@@ -90,7 +84,7 @@ module _ {s : List ℕ} {o : Running} {xs : List ℕ} {rounds at : ℕ} (rest : 
   pub at-end : length s ≤ at → Finishes o (record { number = 0; place = 0; rounds = rounds }) xs
   at-end h =
       finishes o 0 0 rounds xs
-      (rest .same ∙ ap (readEvents (rest .fuel) (view xs) rounds at) (drop-of-length-le s {i = at} h) ∙ nothing (rest .fuel) (view xs) rounds at)
+      (rest .same ∙ ap (readEvents (rest .fuel) (view xs) rounds at) (drop-of-length-le s {i = at} h) ∙ no-event (rest .fuel) (view xs) rounds at)
 
   -- the event of the record r was done
   module _ {r : Record} {k turns : ℕ} {ys : List ℕ} (h : at < length s) (read : r ≡ recordAt s at) (did : Does xs (marksAt at s) (r .event) k turns ys) where
