@@ -8,7 +8,7 @@ use borrow.Author.Tests.{lt-ltb, le-ltb}
 use Rattle.network.specs.Network.{Net}
 use Rattle.network.specs.Writing.{Writes, writing}
 use Rattle.records.specs.Image.{image, imageNumber, imageOf}
-use Rattle.image.specs.Filling.{Wrote}
+use Rattle.filling.specs.Filling.{Wrote}
 
 module _ (x : Net) (out : List ℕ) where
   -- refused

@@ -7,7 +7,7 @@ use native.Mathlib.Omega.{arith}
 use lib.ListN.{length, length-append}
 use Rattle.records.specs.Image.{each}
 use Rattle.records.proofs.Each.{each-split, each-last}
-use Rattle.image.specs.Filling.{Measures}
+use Rattle.image.specs.Measured.{Measures}
 
 -- no record, and one of n bytes
 pub measures-none : {w : List ℕ} (m : ℕ) → w ≡ [] → Measures w m 0

@@ -16,7 +16,7 @@ use Rattle.records.specs.Records.{endRecord, headerRecord}
 use Rattle.records.specs.Image.{each, arcBytes, rowBytes, reportBytes, byNode, byPair, image}
 use Rattle.records.proofs.Each.{each-same, each-split, each-none}
 use Rattle.records.proofs.Sizes.{end-long, header-long}
-use Rattle.image.specs.Filling.{Wrote}
+use Rattle.filling.specs.Filling.{Wrote}
 use Rattle.image.specs.Lines.{arcAt, rowAt, reportAt, recordAt, line, lines}
 
 -- without the numbers from n on, which have no bytes

@@ -7,7 +7,7 @@ use denote.Ref.{now}
 use Rattle.memory.specs.Layout.{view}
 use Rattle.records.specs.Image.{each}
 use Rattle.image.specs.Lines.{line}
-use Rattle.image.specs.Filling.{Measures}
+use Rattle.image.specs.Measured.{Measures}
 use Rattle.image.proofs.Lengths.{measures-none, each-zero, measures-next, measures-all}
 use Rattle.image.proofs.lines_length.Statement.{statement}
 use Rattle.image.proofs.lines_length.Tie as tie

@@ -2,7 +2,7 @@
 -- Assumes nothing.
 use native.Mathlib.Omega.{arith}
 use Rattle.records.specs.Numbers.{be32}
-use Rattle.image.proofs.Parts.{wrote-then}
+use Rattle.filling.proofs.Parts.{wrote-then}
 use Rattle.image.proofs.put32.Statement.{statement}
 use Rattle.image.proofs.put32.Tie as tie
 

@@ -4,7 +4,7 @@ use borrow.Author.Needs.{needs}
 use denote.Ref.{now}
 use Prim.Native.Nat.{_%_}
 use Rattle.records.specs.Numbers.{be8}
-use Rattle.image.proofs.Parts.{wrote-byte}
+use Rattle.filling.proofs.Parts.{wrote-byte}
 use Rattle.image.proofs.put8.Statement.{statement}
 use Rattle.image.proofs.put8.Tie as tie
 

@@ -5,7 +5,7 @@ use denote.Ref.{now}
 use Rattle.memory.specs.Layout.{view}
 use Rattle.records.proofs.Sizes.{arc-long}
 use Rattle.image.proofs.Reading.{arc-none, arc-some}
-use Rattle.image.proofs.Parts.{wrote-none, wrote-as, room-as}
+use Rattle.filling.proofs.Parts.{wrote-none, wrote-as, room-as}
 use Rattle.image.proofs.put_arc_of.Statement.{statement}
 use Rattle.image.proofs.put_arc_of.Tie as tie
 

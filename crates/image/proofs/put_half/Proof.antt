@@ -2,7 +2,7 @@
 -- Assumes nothing.
 use native.Mathlib.Omega.{arith}
 use Rattle.records.specs.Numbers.{be16}
-use Rattle.image.proofs.Parts.{wrote-then}
+use Rattle.filling.proofs.Parts.{wrote-then}
 use Rattle.image.proofs.put_half.Statement.{statement}
 use Rattle.image.proofs.put_half.Tie as tie
 

@@ -3,7 +3,7 @@
 use native.Mathlib.Omega.{arith}
 use Rattle.records.specs.Numbers.{be8}
 use Rattle.records.specs.Records.{headerRecord}
-use Rattle.image.proofs.Parts.{wrote-then}
+use Rattle.filling.proofs.Parts.{wrote-then}
 use Rattle.image.proofs.put_header.Statement.{statement}
 use Rattle.image.proofs.put_header.Tie as tie
 

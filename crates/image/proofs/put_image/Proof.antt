@@ -7,7 +7,7 @@ use denote.Ref.{now}
 use Rattle.memory.specs.Layout.{view}
 use Rattle.memory.proofs.Store.{few}
 use Rattle.records.proofs.Sizes.{end-long}
-use Rattle.image.proofs.Parts.{wrote-as, wrote-on, wrote-then, added-within, added-room}
+use Rattle.filling.proofs.Parts.{wrote-as, wrote-on, wrote-then, added-within, added-room}
 use Rattle.image.proofs.Parting.{image-parts, image-long, header-end}
 use Rattle.image.proofs.put_image.Statement.{statement}
 use Rattle.image.proofs.put_image.Tie as tie

@@ -9,8 +9,8 @@ use denote.Ref.{now}
 use Rattle.memory.specs.Layout.{view}
 use Rattle.records.specs.Image.{each}
 use Rattle.image.specs.Lines.{recordAt}
-use Rattle.image.specs.Filling.{Added}
-use Rattle.image.proofs.Parts.{added-none, added-as, added-within, added-long, added-room, added-then}
+use Rattle.filling.specs.Filling.{Added}
+use Rattle.filling.proofs.Parts.{added-none, added-as, added-within, added-long, added-room, added-then}
 use Rattle.image.proofs.Lengths.{each-zero, each-next, each-among}
 use Rattle.image.proofs.put_line.Statement.{statement}
 use Rattle.image.proofs.put_line.Tie as tie

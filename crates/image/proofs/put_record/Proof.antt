@@ -5,7 +5,7 @@ use mathlib.Core.Path.{refl}
 use denote.Ref.{now}
 use Rattle.memory.specs.Layout.{view}
 use Rattle.image.proofs.Reading.{kind-arc, kind-row, kind-report}
-use Rattle.image.proofs.Parts.{wrote-as, room-as}
+use Rattle.filling.proofs.Parts.{wrote-as, room-as}
 use Rattle.image.proofs.put_record.Statement.{statement}
 use Rattle.image.proofs.put_record.Tie as tie
 

@@ -3,7 +3,7 @@
 use native.Mathlib.Omega.{arith}
 use Rattle.records.specs.Numbers.{be8, be16, be32}
 use Rattle.records.specs.Records.{rowRecord}
-use Rattle.image.proofs.Parts.{wrote-then}
+use Rattle.filling.proofs.Parts.{wrote-then}
 use Rattle.image.proofs.put_row.Statement.{statement}
 use Rattle.image.proofs.put_row.Tie as tie
 

@@ -5,7 +5,7 @@ use denote.Ref.{now}
 use Rattle.memory.specs.Layout.{view}
 use Rattle.records.proofs.Sizes.{row-long}
 use Rattle.image.proofs.Reading.{row-none, row-some}
-use Rattle.image.proofs.Parts.{wrote-none, wrote-as, room-as}
+use Rattle.filling.proofs.Parts.{wrote-none, wrote-as, room-as}
 use Rattle.image.proofs.put_row_of.Statement.{statement}
 use Rattle.image.proofs.put_row_of.Tie as tie
 

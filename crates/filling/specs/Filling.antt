@@ -1,4 +1,4 @@
--- What the writers of numbers and records leave in the part of the output that they are lent, and lengths.
+-- What a writer leaves in the part of an output that it is lent.
 -- Assumes nothing.
 use mathlib.Core.Path.{_≡_}
 use mathlib.Core.List.{List, _++_}
@@ -15,8 +15,3 @@ pub record Added (w entry exit : List ℕ) (a b : ℕ) : Type 0 where
   pub within : a ≤ length entry
   pub place : b ≡ a + length w
   pub left : exit ≡ take a entry ++ (w ++ drop b entry)
-
--- r is the length of w, and at most m
-pub record Measures (w : List ℕ) (m r : ℕ) : Type 0 where
-  pub exact : r ≡ length w
-  pub most : r ≤ m

@@ -6,7 +6,7 @@ use Prim.Native.Nat.{ℕ, _+_, _-_, _≤_}
 use native.Mathlib.Omega.{arith}
 use lib.ListN.{length, take, drop, set, length-append, length-drop, take-append-drop, drop-of-length-le}
 use lib.Seq.{length-take-le, take-at, drop-at, take-all, drop-drop}
-use Rattle.image.specs.Filling.{Wrote, Added}
+use Rattle.filling.specs.Filling.{Wrote, Added}
 
 -- nothing written
 pub wrote-none : {w : List ℕ} (e : List ℕ) → w ≡ [] → Wrote w e e 0
