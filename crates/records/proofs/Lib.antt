@@ -12,3 +12,4 @@ pub mod ImageBytes
 pub mod Reading
 pub mod Grading
 pub mod Enough
+pub mod Begun

@@ -12,7 +12,7 @@ ghost use Rattle.records.specs.Numbers.{num32, words};
 ghost use Rattle.records.specs.Running.{eventDone, roundsIn, runOf};
 ghost use Rattle.memory.specs.Layout.{view};
 ghost use Rattle.memory.specs.Answers.{Leaves};
-ghost use Rattle.running.specs.Answers.{Runs};
+ghost use Rattle.running.specs.Answers.{Ends, Runs};
 ghost use Rattle.running.specs.Inner.{marksAt, Inside, eventsFrom, Finishes};
 
 // ---- marks
@@ -165,7 +165,15 @@ fn run_events(net: &mut Network, input: &[u8], start: usize) -> Finish
     }
 }
 
-// What a run answers: 0 and 0, or the number and place of the refusal at which it stopped; the accepted rounds; its network.
+// How a run ended: 0 and 0, or the number and place of the refusal at which it stopped; the accepted rounds; whether its image was accepted.
+pub struct Ended {
+    pub number: u8,
+    pub place: usize,
+    pub rounds: usize,
+    pub opened: bool,
+}
+
+// The same with the network by value.
 pub struct Ran {
     pub number: u8,
     pub place: usize,
@@ -173,21 +181,34 @@ pub struct Ran {
     pub net: Network,
 }
 
-// Opens the image and does the events after it. With its image refused, answers as opening does, with 0 rounds.
+// Opens the image into lent words and does the events after it. With its image refused, answers as opening does, with 0 rounds.
+pub fn run_into(net: &mut Network, input: &[u8]) -> Ended
+    ensures { λ r. ⌜ Ends (now (input .entry)) r (now (net .exit)) ⌝ }
+{
+    let found = opening::open_into(net, input);
+    if found.number != 0 {
+        return Ended {
+            number: found.number,
+            place: found.place,
+            rounds: 0,
+            opened: false,
+        };
+    }
+    let end = run_events(net, input, found.used);
+    Ended {
+        number: end.number,
+        place: end.place,
+        rounds: end.rounds,
+        opened: true,
+    }
+}
+
+// A run, and its network by value.
 pub fn run(input: &[u8]) -> Ran
     ensures { λ r. ⌜ Runs (runOf (now (input .entry))) r ⌝ }
 {
     let mut net = [0u32; memory::WORDS];
-    let found = opening::open_into(&mut net, input);
-    if found.number != 0 {
-        return Ran {
-            number: found.number,
-            place: found.place,
-            rounds: 0,
-            net: net,
-        };
-    }
-    let end = run_events(&mut net, input, found.used);
+    let end = run_into(&mut net, input);
     Ran {
         number: end.number,
         place: end.place,

@@ -1,9 +1,9 @@
--- `running::run` meets its contract: the image, and then the events.
+-- `running::run_into` meets its contract: the image, and then the events.
 -- Assumes nothing.
 use borrow.Author.Needs.{needs}
 use Rattle.running.proofs.Whole.{events-inside, image-refused, events-follow}
-use Rattle.running.proofs.run.Statement.{statement}
-use Rattle.running.proofs.run.Tie as tie
+use Rattle.running.proofs.run_into.Statement.{statement}
+use Rattle.running.proofs.run_into.Tie as tie
 
 open-into-requires : tie.Need-open-into-requires
 open-into-requires c κs = search needs
@@ -19,5 +19,5 @@ returns-2 c =
     events-follow _ _ _ _ _ (c .before .before .before .before .open-into .ensures) (c .before .before .if1 .left) (c .run-events .result)
     (c .run-events .last .0) (c .run-events .ensures)
 
-pub run-spec : {M : Type 1} → statement M
-run-spec = tie.close (tie.spec open-into-requires returns run-events-requires returns-2)
+pub run-into-spec : {M : Type 1} → statement M
+run-into-spec = tie.close (tie.spec open-into-requires returns run-events-requires returns-2)
