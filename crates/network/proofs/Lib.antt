@@ -13,3 +13,4 @@ pub mod Keeping
 mod Least
 mod Bits
 pub mod Walking
+pub mod Numbers

@@ -13,3 +13,4 @@ pub mod Reading
 pub mod Grading
 pub mod Enough
 pub mod Begun
+pub mod Places

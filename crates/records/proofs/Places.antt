@@ -1,0 +1,149 @@
+-- The numbers and places that opening and runs answer: a number is at most 5 or 7, and a place is within the input.
+-- Assumes nothing.
+use mathlib.Core.Path.{_≡_, refl}
+use mathlib.Core.List.{List, [], _∷_}
+use mathlib.Core.Logic.{_⊎_, inl, inr, _≢_}
+use Prim.Native.Nat.{ℕ, zero, suc, _+_, _≤_}
+use native.Mathlib.Omega.{arith}
+use lib.Dec.{eqb, ltb}
+use lib.ListN.{length, drop, length-drop}
+use Rattle.ancestors.proofs.Cases.{eq-or-ne, cond-by}
+use Rattle.network.specs.Faults.{nodeFault, pairFault}
+use Rattle.network.specs.Network.{Net, freshNet, freshNumber}
+use Rattle.network.specs.Change.{changed, changeNumber, changeOf}
+use Rattle.network.specs.Round.{marked, round, roundNumber, roundOf, everyArc, fullRoundOf}
+use Rattle.network.proofs.Effects.{outcome-number}
+use Rattle.network.proofs.Numbers.{cond-most, fresh-most, change-most, place-row-most, place-report-most, round-most}
+use Rattle.records.specs.Numbers.{words}
+use Rattle.records.specs.Records.{atStart, inImage, asEvent, bodyOf, recordOf}
+use Rattle.records.specs.Opening.{Step, stop, finish, onward, orderNumber, firstOf, arcNumber, rowNumber, reportNumber, judged, placed, Opening, afterStep, readRecords, started, openOf}
+use Rattle.records.specs.Running.{eventDone, roundsIn, Running, afterEvent, readEvents, runOf}
+use Rattle.records.specs.declared.ArcChange.the-variants.{Set, Removed}
+use Rattle.records.specs.declared.Event.{Event}
+use Rattle.records.specs.declared.Event.the-variants.{End, Header, Change, Row, Report, Round, FullRound, Refusal}
+use Rattle.records.specs.declared.Record.{Record}
+use Rattle.records.proofs.Reading.{length-within, Expected, expected}
+use Rattle.records.proofs.Opened.{open-used}
+use Rattle.records.proofs.Begun.{run-refused, run-opened}
+
+-- ---- a record of an image
+
+-- the number of a refusal is at most 5
+abbrev StopMost : Step → Type 0
+StopMost (stop e) = e ≤ 5
+StopMost finish = Unit {0}
+StopMost (onward z k) = Unit {0}
+
+-- the first of two numbers that is not 0 is one of them
+first-most : (m a b : ℕ) → a ≤ m → b ≤ m → firstOf a b ≤ m
+unfolding firstOf
+first-most m a b f g = cond-most m (eqb a 0) b a g f
+
+order-most : (next k : ℕ) → orderNumber next k ≤ 5
+unfolding orderNumber
+order-most next k = cond-most 5 (ltb k next) 4 0 (omega arith) (omega arith)
+
+judged-most : (e : ℕ) (z : Net) (k : ℕ) → e ≤ 5 → StopMost (judged e z k)
+unfolding judged
+judged-most e z k h = cond-by StopMost (eqb e 0) _ _ (λ _. tt) (λ _. h)
+
+-- a record with the event e
+placed-most : (x : Net) (next at : ℕ) (bs : List ℕ) (e : Event) → recordOf inImage at bs .event ≡ e → StopMost (placed x next e)
+unfolding placed arcNumber rowNumber reportNumber
+placed-most x next at bs End q = tt
+placed-most x next at bs (Header n o) q = omega arith
+placed-most x next at bs (Change (Set s r c)) q =
+    judged-most (arcNumber x next s r c) _ _ (first-most 5 _ _ (omega (arith, change-most x s r c)) (order-most next _))
+placed-most x next at bs (Change (Removed s r)) q = omega arith
+placed-most x next at bs (Row y d p l) q =
+    judged-most (rowNumber x next y d p l) _ _
+    (first-most 5 _ _ (cond-most 5 (nodeFault (x .nodes) y) 3 0 (omega arith) (omega arith)) (first-most 5 _ _ (order-most next _) (place-row-most x y d p l)))
+placed-most x next at bs (Report s r d l) q =
+    judged-most (reportNumber x next s r d l) _ _
+    (first-most 5 _ _ (cond-most 5 (pairFault (x .nodes) s r) 3 0 (omega arith) (omega arith)) (first-most 5 _ _ (order-most next _) (place-report-most x s r d l)))
+placed-most x next at bs Round q = omega arith
+placed-most x next at bs FullRound q = omega arith
+placed-most x next at bs (Refusal e p) q = omega (arith, expected inImage at bs (Refusal e p) q .2)
+
+-- ---- opening
+
+-- number and place of an opening of L bytes
+abbrev Small : ℕ → Opening → Type 0
+Small L o = (o .number ≤ 5) × (o .place ≤ L)
+
+after-small : (L at : ℕ) → at ≤ L → (go : Net → ℕ → Opening) (x : Net) → ((z : Net) (k : ℕ) → Small L (go z k)) → (t : Step) → StopMost t
+    → Small L (afterStep go x at t)
+after-small L at h go x again (stop e) m = (m, h)
+after-small L at h go x again finish m = (omega arith, omega arith)
+after-small L at h go x again (onward z k) m = again z k
+
+records-small : (L k : ℕ) (x : Net) (next at : ℕ) (bs : List ℕ) → at + length bs ≤ L → Small L (readRecords k x next at bs)
+unfolding readRecords
+records-small L zero x next at bs h = (omega arith, omega arith)
+records-small L (suc k) x next at bs h =
+    let r = recordOf inImage at bs in
+    after-small L at (omega arith) (λ z above. readRecords k z above (at + r .length) (drop (r .length) bs)) x
+    (λ z above.
+    records-small L k z above (at + r .length) (drop (r .length) bs) (omega (arith, length-drop (r .length) bs, length-within inImage at bs)))
+    (placed x next (r .event)) (placed-most x next at bs (r .event) refl)
+
+-- opening answers a number of at most 5, and a place within the input
+pub open-small : (bs : List ℕ) → Small (length bs) (openOf bs)
+unfolding openOf started
+open-small bs = go (recordOf atStart 0 bs) (recordOf atStart 0 bs .event) (length-within atStart 0 bs) (expected atStart 0 bs _ refl)
+  where
+    go : (r : Record) (e : Event) → r .length ≤ length bs → Expected atStart 0 (r .length) e → Small (length bs) (started bs r e)
+    go r (Header n o) h q =
+        cond-by (Small (length bs)) (eqb (freshNumber n o) 0) _ _
+        (λ _. records-small (length bs) (length bs) (freshNet n o) 0 (r .length) (drop (r .length) bs) (omega (arith, length-drop (r .length) bs)))
+        (λ _. (omega (arith, fresh-most n o), omega arith))
+    go r (Refusal e p) h q = (omega (arith, q .2), omega (arith, q .0))
+    go r End h q = absurd q
+    go r (Change a) h q = absurd q
+    go r (Row y d p l) h q = absurd q
+    go r (Report t v d l) h q = absurd q
+    go r Round h q = absurd q
+    go r FullRound h q = absurd q
+
+-- ---- a run
+
+-- the number of an event
+done-most : (x : Net) (b : List ℕ) (at : ℕ) (bs : List ℕ) (e : Event) → recordOf asEvent at bs .event ≡ e → eventDone x b e .number ≤ 7
+unfolding eventDone changeOf roundOf fullRoundOf
+done-most x b at bs (Change (Set s r c)) q = omega (arith, outcome-number (changeNumber x s r c) (changed x s r c) x, change-most x s r c)
+done-most x b at bs (Change (Removed s r)) q = omega (arith, outcome-number (changeNumber x s r 0) (changed x s r 0) x, change-most x s r 0)
+done-most x b at bs Round q = omega (arith, outcome-number (roundNumber x (words 32 b)) (round (marked (words 32 b)) x) x, round-most x (words 32 b))
+done-most x b at bs FullRound q = omega (arith, outcome-number 0 (round (everyArc x) x) x)
+done-most x b at bs (Refusal e p) q = omega (arith, outcome-number e x x, expected asEvent at bs (Refusal e p) q .2)
+done-most x b at bs End q = absurd (expected asEvent at bs End q)
+done-most x b at bs (Header n o) q = absurd (expected asEvent at bs (Header n o) q)
+done-most x b at bs (Row y d p l) q = absurd (expected asEvent at bs (Row y d p l) q)
+done-most x b at bs (Report s r d l) q = absurd (expected asEvent at bs (Report s r d l) q)
+
+-- number and place of a run of L bytes
+abbrev pub Brief : ℕ → Running → Type 0
+Brief L o = (o .number ≤ 7) × (o .place ≤ L)
+
+events-small : (L k : ℕ) (x : Net) (n at : ℕ) (bs : List ℕ) → at + length bs ≤ L → Brief L (readEvents k x n at bs)
+unfolding readEvents afterEvent
+events-small L zero x n at bs h = (omega arith, omega arith)
+events-small L (suc k) x n at [] h = (omega arith, omega arith)
+events-small L (suc k) x n at (kind ∷ b) h =
+    let r = recordOf asEvent at (kind ∷ b) in
+    let o = eventDone x (bodyOf kind b) (r .event) in
+    cond-by (Brief L) (eqb (o .number) 0) _ _
+    (λ _.
+    events-small L k (o .net) (n + roundsIn (r .event)) (at + r .length) (drop (r .length) (kind ∷ b))
+    (omega (arith, length-drop (r .length) (kind ∷ b), length-within asEvent at (kind ∷ b))))
+    (λ _. (done-most x (bodyOf kind b) at (kind ∷ b) (r .event) refl, omega arith))
+
+-- a run answers a number of at most 7, and a place within the input
+pub run-small : (bs : List ℕ) → Brief (length bs) (runOf bs)
+run-small bs = go (eq-or-ne (openOf bs .number) 0)
+  where
+    go : (openOf bs .number ≡ 0) ⊎ (openOf bs .number ≢ 0) → Brief (length bs) (runOf bs)
+    go (inl e) =
+        rw (run-opened bs e)
+        (events-small (length bs) (length bs) (openOf bs .net) 0 (openOf bs .used) (drop (openOf bs .used) bs)
+        (omega (arith, open-used bs, length-drop (openOf bs .used) bs)))
+    go (inr n) = rw (run-refused bs n) (omega (arith, open-small bs .0), open-small bs .1)
