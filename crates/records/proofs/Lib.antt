@@ -14,3 +14,4 @@ pub mod Grading
 pub mod Enough
 pub mod Begun
 pub mod Places
+pub mod ImageWriting

@@ -114,10 +114,10 @@ rows-most x l h e =
     none-there true e = refl
     none-there false e = e
 
--- an image is at most 16,217 bytes if the origin is one of 32 nodes and has the origin's row
-pub image-bound : (x : Net) (l : ℕ) → x .origin < 32 → x .row (x .origin) ≡ root l → length (image x) ≤ 16217
+-- an image of whose rows m bytes are written at most
+image-rows : (x : Net) (m : ℕ) → length (byNode x (λ y. rowBytes y (x .row y))) ≤ m → length (image x) ≤ 15876 + m
 unfolding image
-image-bound x l h o =
+image-rows x m f =
     let arcs = byPair x (λ s r. arcBytes s r (x .cost s r)) in
     let rows = byNode x (λ y. rowBytes y (x .row y)) in
     let reports = byPair x (λ s r. reportBytes s r (x .held s r)) in
@@ -126,9 +126,20 @@ image-bound x l h o =
     let c = length-append rows (reports ++ endRecord) in
     let d = length-append reports endRecord in
     let e = pairs-most x (λ s r. arcBytes s r (x .cost s r)) 5 (λ s r. arc-most s r (x .cost s r)) in
-    let f = rows-most x l h o in
     let g = pairs-most x (λ s r. reportBytes s r (x .held s r)) 11 (λ s r. report-most s r (x .held s r)) in
     omega (arith, a, b, c, d, e, f, g, header-long (x .nodes) (x .origin), end-long)
+
+-- of any network at all
+pub image-any : (x : Net) → length (image x) ≤ 16228
+unfolding byNode
+image-any x =
+    image-rows x 352
+    (each-most (λ y. cond (nodeFault (x .nodes) y) [] (rowBytes y (x .row y))) 11 0 32
+    (λ y _ _. cond-most 11 (nodeFault (x .nodes) y) (rowBytes y (x .row y)) (row-most y (x .row y))))
+
+-- an image is at most 16,217 bytes if the origin is one of 32 nodes and has the origin's row
+pub image-bound : (x : Net) (l : ℕ) → x .origin < 32 → x .row (x .origin) ≡ root l → length (image x) ≤ 16217
+image-bound x l h o = image-rows x 341 (rows-most x l h o)
 
 -- as in every network within limits
 pub image-most : (x : Net) → Within x → length (image x) ≤ 16217

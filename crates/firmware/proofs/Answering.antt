@@ -1,0 +1,83 @@
+-- What the answer of the C call tells: its remainder by 32 is 0 exactly where the image is written.
+-- Assumes nothing.
+use mathlib.Core.Path.{_≡_, ap, _∙_}
+use mathlib.Core.Logic.{_⊎_, inl, inr, _≢_}
+use mathlib.Core.List.{List, _++_}
+use Prim.Native.Nat.{ℕ, _+_, _*_, _/_, _%_, _<_, _≤_}
+use native.Mathlib.Omega.{arith}
+use lib.ListN.{length, drop}
+use Rattle.ancestors.proofs.Cases.{eq-or-ne, le-or-lt}
+use Rattle.records.specs.Numbers.{Bytes}
+use Rattle.records.specs.Image.{image}
+use Rattle.records.specs.Opening.{openOf, acceptedOpening}
+use Rattle.records.specs.Running.{runOf}
+use Rattle.records.proofs.Sizes.{image-most}
+use Rattle.records.proofs.Acceptance.{reopening}
+use Rattle.records.proofs.Places.{run-small}
+use Rattle.settling.proofs.RunCalls.{run-within}
+use Rattle.firmware.specs.Calling.{Called, maxRun, refusedAnswer, callOf}
+use Rattle.firmware.proofs.Calling.{call-long, call-refused, call-short, call-written}
+
+-- a call is refused, with a number from 1 to 7 and a place within the run, and nothing is written; or the image of the run's network is written
+pub data CallIs (run out : List ℕ) (o : Called) : Type 0 where
+  refused : (number place : ℕ) → 0 < number → number ≤ 7 → place ≤ length run → o .answer % 32 ≡ number → o .answer / 32 ≡ place → o .output ≡ out
+      → CallIs run out o
+  written : o .answer % 32 ≡ 0 → o .answer / 32 ≡ length (image (runOf run .net))
+      → o .output ≡ image (runOf run .net) ++ drop (length (image (runOf run .net))) out → CallIs run out o
+
+-- number and place of a refusal
+number-part : (number place : ℕ) → number < 32 → refusedAnswer number place % 32 ≡ number
+unfolding refusedAnswer
+number-part number place h = omega arith
+
+place-part : (number place : ℕ) → number < 32 → refusedAnswer number place / 32 ≡ place
+unfolding refusedAnswer
+place-part number place h = omega arith
+
+-- length of an image
+length-rest : (k : ℕ) → 32 * k % 32 ≡ 0
+length-rest k = omega arith
+
+length-part : (k : ℕ) → 32 * k / 32 ≡ k
+length-part k = omega arith
+
+module _ (run out : List ℕ) where
+  told : (number place : ℕ) → 0 < number → number ≤ 7 → place ≤ length run → callOf run out ≡ record { answer = refusedAnswer number place; output = out }
+      → CallIs run out (callOf run out)
+  told number place a b p e =
+      refused number place a b p (ap (λ (o : Called). o .answer % 32) e ∙ number-part number place (omega arith))
+      (ap (λ (o : Called). o .answer / 32) e ∙ place-part number place (omega arith)) (ap (λ (o : Called). o .output) e)
+
+  pub call-is : CallIs run out (callOf run out)
+  call-is = by-length (le-or-lt (length run) maxRun)
+    where
+      by-room : length run ≤ maxRun → runOf run .number ≡ 0
+          → (length (image (runOf run .net)) ≤ length out) ⊎ (length out < length (image (runOf run .net))) → CallIs run out (callOf run out)
+      by-room h z (inl fits) =
+          let e = call-written run out h z fits in
+          let k = length (image (runOf run .net)) in
+          written (ap (λ (o : Called). o .answer % 32) e ∙ length-rest k) (ap (λ (o : Called). o .answer / 32) e ∙ length-part k)
+          (ap (λ (o : Called). o .output) e)
+      by-room h z (inr short) = told 6 0 (omega arith) (omega arith) (omega arith) (call-short run out h z short)
+
+      by-number : length run ≤ maxRun → (runOf run .number ≡ 0) ⊎ (runOf run .number ≢ 0) → CallIs run out (callOf run out)
+      by-number h (inl z) = by-room h z (le-or-lt (length (image (runOf run .net))) (length out))
+      by-number h (inr n) =
+          told (runOf run .number) (runOf run .place) (omega (arith, n)) (run-small run .0) (run-small run .1) (call-refused run out h n)
+
+      by-length : (length run ≤ maxRun) ⊎ (maxRun < length run) → CallIs run out (callOf run out)
+      by-length (inl h) = by-number h (eq-or-ne (runOf run .number) 0)
+      by-length (inr h) = told 3 0 (omega arith) (omega arith) (omega arith) (call-long run out h)
+
+  module _ (bytes : Bytes run) where
+    -- an output of 16,217 bytes has room for every image
+    pub room-enough : length run ≤ maxRun → runOf run .number ≡ 0 → 16217 ≤ length out → callOf run out .answer ≡ 32 * length (image (runOf run .net))
+    room-enough h z room =
+        ap (λ (o : Called). o .answer) (call-written run out h z (omega (arith, image-most (runOf run .net) (run-within run bytes))))
+
+    -- the image written opens again, to the network of the run
+    pub call-reopens : length run ≤ maxRun → runOf run .number ≡ 0 → length (image (runOf run .net)) ≤ length out
+        → openOf (callOf run out .output) ≡ acceptedOpening (runOf run .net) (length (image (runOf run .net)))
+    call-reopens h z fits =
+        ap (λ (o : Called). openOf (o .output)) (call-written run out h z fits) ∙
+        reopening (runOf run .net) (run-within run bytes) (drop (length (image (runOf run .net))) out)
