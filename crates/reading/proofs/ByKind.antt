@@ -1,6 +1,6 @@
 -- Laws of a record read, by its kind: a missing kind byte, a kind that is not allowed, a short body, a whole one.
 -- Assumes nothing.
-use mathlib.Core.Path.{_≡_, refl}
+use mathlib.Core.Path.{_≡_, refl, ap, subst, _∙_}
 use mathlib.Core.Bool.{true, false, cond}
 use mathlib.Core.Logic.{_≢_}
 use mathlib.Core.List.{List}
@@ -15,6 +15,7 @@ use Rattle.network.specs.Change.{gradeCost}
 use Rattle.records.specs.Records.{Section, bodyLength, bodyOf, arcChange, gradeChange, eventOf, allowed, refusedRecord, bodied, recordOf}
 use Rattle.records.specs.Numbers.{num8, num16, num32}
 use Rattle.records.proofs.Reading.{never-allowed}
+use Rattle.records.specs.declared.ArcChange.{ArcChange}
 use Rattle.records.specs.declared.ArcChange.the-variants.{Set, Removed}
 use Rattle.records.specs.declared.Event.{Event}
 use Rattle.records.specs.declared.Event.the-variants.{End, Header, Change, Row, Report, Round, FullRound, Refusal}
@@ -45,14 +46,23 @@ pub change-sets : (s r c : ℕ) → c ≢ 0 → Set s r c ≡ arcChange s r c
 unfolding arcChange
 change-sets s r c n = rw (ne-eqb c 0 n)
 
+-- a change made from numbers that were read is the change to those numbers
+pub change-read : {v : ArcChange} {s s′ r r′ c c′ : ℕ} → v ≡ arcChange s r c → s ≡ s′ → r ≡ r′ → c ≡ c′ → Change v ≡ Change (arcChange s′ r′ c′)
+change-read e p q h = ap Change (e ∙ (λ j. arcChange (p j) (q j) (h j)))
+
 -- a grade above 15 is refused, another changes to its cost
 pub grade-refused : (at s r g : ℕ) → 15 < g → Refusal 3 at ≡ gradeChange at s r g
 unfolding gradeChange gradeFault
 grade-refused at s r g h = rw (lt-ltb 15 g h)
 
-pub grade-changes : (at s r g : ℕ) → g ≤ 15 → Change (arcChange s r (gradeCost g)) ≡ gradeChange at s r g
+grade-changes : (at s r g : ℕ) → g ≤ 15 → Change (arcChange s r (gradeCost g)) ≡ gradeChange at s r g
 unfolding gradeChange gradeFault
 grade-changes at s r g h = rw (le-ltb 15 g h)
+
+-- so does a change made from a grade that was read
+pub grade-read : (at : ℕ) {v : ArcChange} {s s′ r r′ g g′ c : ℕ} → g ≡ g′ → g ≤ 15 → v ≡ arcChange s r c → s ≡ s′ → r ≡ r′ → c ≡ gradeCost g
+    → Change v ≡ gradeChange at s′ r′ g′
+grade-read at d k e p q h = change-read e p q (h ∙ ap gradeCost d) ∙ grade-changes at _ _ _ (subst (λ x. x ≤ 15) d k)
 
 -- ---- the table of kinds
 

@@ -1,6 +1,7 @@
 -- `reading::arc_body` meets its contract.
 -- Assumes nothing.
 use borrow.Author.Needs.{needs}
+use Rattle.reading.proofs.ByKind.{change-read}
 use Rattle.reading.proofs.arc_body.Statement.{statement}
 use Rattle.reading.proofs.arc_body.Tie as tie
 
@@ -17,7 +18,7 @@ change-to-requires : tie.Need-change-to-requires
 change-to-requires c κs = search needs
 
 returns : tie.Need-returns
-returns c = cc
+returns c = change-read (c .change-to .ensures) (c .before .before .before .get8 .ensures) (c .before .before .get82 .ensures) (c .before .get16 .ensures .0)
 
 pub arc-body-spec : {M : Type 1} → statement M
 arc-body-spec =

@@ -1,6 +1,8 @@
 -- `reading::get32` meets its contract.
 -- Assumes nothing.
 use borrow.Author.Needs.{needs}
+use mathlib.Core.Path.{_∙_}
+use Prim.Native.Nat.{_+_, _*_}
 use denote.Ref.{now}
 use Rattle.reading.proofs.ByKind.{halves-at}
 use Rattle.reading.proofs.get32.Statement.{statement}
@@ -24,7 +26,7 @@ add-result c = search needs
 returns : tie.Need-returns
 returns c =
     let a = c .before .before .before .args in
-    cc (halves-at (now (a .b)) (a .i))
+    (λ j. c .before .get16 .ensures .0 j * 65536 + c .get162 .ensures .0 j) ∙ halves-at (now (a .b)) (a .i)
 
 pub get32-spec : {M : Type 1} → statement M
 get32-spec =

@@ -2,9 +2,7 @@
 -- Assumes nothing.
 use borrow.Author.Needs.{needs}
 use native.Mathlib.Omega.{arith}
-use denote.Ref.{now}
-use Rattle.records.specs.Numbers.{num8}
-use Rattle.reading.proofs.ByKind.{grade-refused, grade-changes}
+use Rattle.reading.proofs.ByKind.{grade-refused, grade-read}
 use Rattle.reading.proofs.grade_body.Statement.{statement}
 use Rattle.reading.proofs.grade_body.Tie as tie
 
@@ -28,8 +26,9 @@ change-to-requires c κs = search needs
 
 returns-2 : tie.Need-returns-2
 returns-2 c =
-    let a = c .before .before .before .before .before .before .before .args in
-    cc (grade-changes (a .at) (num8 (now (a .b)) 0) (num8 (now (a .b)) 1) (num8 (now (a .b)) 2) (omega arith))
+    let g = c .before .before .before .before in
+    grade-read (g .before .before .before .args .at) (g .before .get8 .ensures) (g .if1 .left) (c .change-to .ensures)
+    (c .before .before .before .get82 .ensures) (c .before .before .get83 .ensures) (c .before .grade-cost .ensures)
 
 pub grade-body-spec : {M : Type 1} → statement M
 grade-body-spec =
