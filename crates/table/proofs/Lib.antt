@@ -1,0 +1,4 @@
+pub mod Filling
+pub mod Digits
+pub mod Rows
+pub mod Texts

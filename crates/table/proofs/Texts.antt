@@ -1,0 +1,39 @@
+-- The whole text by how the run ended.
+-- Assumes nothing.
+use mathlib.Core.Path.{_≡_, sym, ap, ap₂, _∙_}
+use mathlib.Core.Bool.{true, false}
+use mathlib.Core.List.{List, _++_}
+use Prim.Native.Nat.{ℕ, _<_, _≤_}
+use lib.Dec.{eqb}
+use lib.ListN.{length}
+use borrow.Author.Tests.{lt-ltb, le-ltb, eqb-false}
+use Rattle.network.specs.Network.{Net}
+use Rattle.memory.specs.Layout.{view}
+use Rattle.records.specs.Opening.{openOf}
+use Rattle.records.specs.Running.{Running, runOf}
+use Rattle.records.proofs.Begun.{run-refused}
+use Rattle.running.specs.Answers.{Ends}
+use Rattle.running.specs.declared.Ended.{Ended}
+use Rattle.table.specs.Text.{maxInput, tableText, stopLine, lastLine, runText, tooLong, textOf}
+
+-- a longer input than the longest
+pub text-long : (s : List ℕ) → maxInput < length s → textOf s ≡ tooLong
+unfolding textOf
+text-long s h = rw (lt-ltb maxInput (length s) h)
+
+module _ (s : List ℕ) (short : length s ≤ maxInput) (e : Ended) (words : List ℕ) (ends : Ends s e words) where
+  -- the image was refused
+  pub text-refused : e .opened ≡ false → textOf s ≡ stopLine (e .number) (e .place)
+  unfolding textOf
+  text-refused f =
+      let t : eqb (openOf s .number) 0 ≡ false = sym (ends .opened) ∙ f in
+      let r = run-refused s (eqb-false _ _ t) in
+      rw (le-ltb maxInput (length s) short, t)
+      (sym (ap₂ stopLine (ends .number ∙ ap (λ (o : Running). o .number) r) (ends .place ∙ ap (λ (o : Running). o .place) r)))
+
+  -- the image was accepted
+  pub text-opened : e .opened ≡ true → textOf s ≡ tableText (view words) (e .rounds) ++ lastLine (e .number) (e .place)
+  unfolding textOf runText
+  text-opened f =
+      let t : eqb (openOf s .number) 0 ≡ true = sym (ends .opened) ∙ f in
+      rw (le-ltb maxInput (length s) short, t, ends .number, ends .place, ends .rounds, ends .net)
