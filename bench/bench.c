@@ -1,7 +1,12 @@
-/* Microseconds to a round, an opening, an image writing and a run, the proved one beside the plain C one. Both are checked to give the same. */
+/*
+ * Microseconds to a call, the proved one beside the plain C one: rounds, opening, image writing, runs and the C call; and how a round grows with
+ * the number of nodes. Each line measures the two sides in turn, so that other load meets both alike, and takes the least of several runs. Before and
+ * after each line both sides are held to the same network and the same answers; the exit status is not 0 where they differ.
+ */
 #include <stdio.h>
 #include <string.h>
 #include <time.h>
+#include "gerqalli.h"
 #include "plain.h"
 
 extern uint8_t bench_change(uint32_t *net, uint32_t sender, uint32_t receiver, uint32_t cost);
@@ -11,13 +16,16 @@ extern void bench_open(const uint8_t *in, uint64_t size, uint64_t *answer, uint3
 extern void bench_run(const uint8_t *in, uint64_t size, uint64_t *answer, uint32_t *net);
 extern void bench_image(const uint32_t *net, uint8_t *out, uint64_t room, uint64_t *answer);
 
-#define IMAGE 16217
+#define NODES 32
+#define WORDS 3200
+#define RUNS 27
 #define ROUNDS 1000000
+#define SETS 16
 
-static uint32_t words[3200];
+static uint32_t words[WORDS];
 static struct plain_net plain;
-static uint32_t marks[32];
 static uint32_t seed = 1;
+static int bad;
 
 static uint32_t next(void)
 {
@@ -34,12 +42,84 @@ static double now(void)
     return t.tv_sec * 1e6 + t.tv_nsec / 1e3;
 }
 
+typedef void (*work)(void);
+struct times {
+    double proved, plain;
+};
+
+static double timed(work f, int count)
+{
+    double t = now();
+    for (int i = 0; i < count; i++)
+        f();
+    return (now() - t) / count;
+}
+
+/* the least of several runs, the two sides in turn */
+static struct times measure(work proved, work other, int count)
+{
+    struct times least = {1e18, 1e18};
+    for (int k = 0; k < RUNS; k++) {
+        double a = timed(proved, count), b = timed(other, count);
+        least.proved = a < least.proved ? a : least.proved;
+        least.plain = b < least.plain ? b : least.plain;
+    }
+    return least;
+}
+
+static void print(const char *name, uint32_t n, struct times t)
+{
+    printf("| %-27s | %5u | %10.3f | %10.3f | %5.2f |\n", name, n, t.proved, t.plain, t.proved / t.plain);
+}
+
+static void title(const char *name)
+{
+    printf("| %-27s | nodes |     proved |    plain C | ratio |\n|---|---|---|---|---|\n", name);
+}
+
+static void held(int right, const char *what)
+{
+    if (right)
+        return;
+    printf("differs: %s\n", what);
+    bad = 1;
+}
+
+/* ---- networks: both sides write the same image */
+
+static uint8_t proved_out[GERQALLI_MAX_IMAGE], plain_out[GERQALLI_MAX_IMAGE];
+static uint64_t proved_answer[3], plain_answer[3];
+
+static void proved_write(void) { bench_image(words, proved_out, sizeof proved_out, proved_answer); }
+static void plain_write(void) { plain_answer[0] = (uint64_t)plain_image(&plain, plain_out, sizeof plain_out, &plain_answer[1]); }
+
+static int same(void)
+{
+    memset(proved_out, 0xff, sizeof proved_out);
+    memset(plain_out, 0xff, sizeof plain_out);
+    proved_write();
+    plain_write();
+    return proved_answer[0] == 0 && !memcmp(proved_answer, plain_answer, 2 * sizeof *plain_answer) && !memcmp(proved_out, plain_out, sizeof plain_out);
+}
+
+/* ---- rounds */
+
+/* marks that lose `lost` in ten of the arcs, taken in turn */
+static uint32_t marks[SETS][NODES];
+static unsigned proved_set, plain_set;
+
+static void proved_full(void) { bench_full_round(words); }
+static void plain_full(void) { plain_full_round(&plain); }
+static void proved_marked(void) { bench_round(words, marks[proved_set++ % SETS], NODES); }
+static void plain_marked(void) { plain_round(&plain, marks[plain_set++ % SETS], NODES); }
+
 /* every arc of n nodes, or one in `sparse`; origin 0 */
-static void build(uint32_t n, uint32_t sparse)
+static void build(uint32_t n, uint32_t sparse, uint32_t lost)
 {
     memset(words, 0, sizeof words);
     memset(&plain, 0, sizeof plain);
     memset(marks, 0, sizeof marks);
+    proved_set = plain_set = 0;
     words[0] = plain.n = n;
     plain.row_list[0] = 1;
     for (uint32_t r = 0; r < n; r++)
@@ -47,70 +127,76 @@ static void build(uint32_t n, uint32_t sparse)
             if (r == s || next() % sparse)
                 continue;
             uint32_t c = 1 + next() % 600;
-            bench_change(words, s, r, c);
-            plain_change(&plain, s, r, c);
-            marks[r] |= 1u << s;
+            held(bench_change(words, s, r, c) == plain_change(&plain, s, r, c), "change");
+            for (int k = 0; k < SETS; k++)
+                if (next() % 10 >= lost)
+                    marks[k][r] |= 1u << s;
         }
 }
 
-static int same(void)
+static struct times rounds(uint32_t n, uint32_t sparse, uint32_t lost, work proved, work other)
 {
-    for (uint32_t y = 0; y < plain.n; y++) {
-        if (y == plain.origin)
-            continue;
-        if (words[96 + y] != plain.row_list[y])
-            return 0;
-        if (words[96 + y] && (words[32 + y] != plain.row_label[y] || words[64 + y] != plain.row_from[y]))
-            return 0;
+    build(n, sparse, lost);
+    for (int k = 0; k < 2 * NODES; k++) {
+        proved();
+        other();
+        held(same(), "round");
     }
-    return 1;
+    struct times t = measure(proved, other, 200000 / (int)(n * n));
+    held(same(), "rounds");
+    return t;
 }
 
-typedef void (*work)(void);
-static void proved_full(void) { bench_full_round(words); }
-static void plain_full(void) { plain_full_round(&plain); }
-static void proved_marked(void) { bench_round(words, marks, 32); }
-static void plain_marked(void) { plain_round(&plain, marks, 32); }
+struct kind {
+    const char *name;
+    uint32_t sparse, lost;
+    work proved, plain;
+};
 
-/* the least of several runs */
-static double measure(work f, int count)
+static const struct kind kinds[] = {
+    {"full round, dense", 1, 0, proved_full, plain_full},
+    {"marked, none lost, dense", 1, 0, proved_marked, plain_marked},
+    {"marked, 5 in 10 lost, dense", 1, 5, proved_marked, plain_marked},
+    {"marked, 9 in 10 lost, dense", 1, 9, proved_marked, plain_marked},
+    {"full round, 1 arc in 8", 8, 0, proved_full, plain_full},
+    {"marked, 5 in 10, 1 arc in 8", 8, 5, proved_marked, plain_marked},
+};
+
+static void round_lines(void)
 {
-    double best = 1e18;
-    for (int k = 0; k < 9; k++) {
-        double t = now();
-        for (int i = 0; i < count; i++)
-            f();
-        t = (now() - t) / count;
-        if (t < best)
-            best = t;
-    }
-    return best;
+    for (unsigned k = 0; k < sizeof kinds / sizeof *kinds; k++)
+        for (uint32_t n = 4; n <= NODES; n *= 2)
+            print(kinds[k].name, n, rounds(n, kinds[k].sparse, kinds[k].lost, kinds[k].proved, kinds[k].plain));
 }
 
-static int line(const char *name, uint32_t n, uint32_t sparse, work a, work b)
+/* how the cost of a dense round grows */
+static void growth_lines(void)
 {
-    build(n, sparse);
-    int count = 400000 / (int)(n * n);
-    double p = measure(a, count), q = measure(b, count);
-    printf("%-22s %5u %10.3f %10.3f %8.2f\n", name, n, p, q, p / q);
-    if (!same()) {
-        printf("rows differ\n");
-        return 1;
+    static const unsigned shown[] = {0, 2};
+    printf("\n| growth of a dense round     | nodes |       arcs | ns per arc | times 4 nodes |\n|---|---|---|---|---|\n");
+    for (unsigned i = 0; i < sizeof shown / sizeof *shown; i++) {
+        const struct kind *k = &kinds[shown[i]];
+        double first = 0;
+        for (uint32_t n = 4; n <= NODES; n += 4) {
+            double t = rounds(n, k->sparse, k->lost, k->proved, k->plain).proved;
+            uint32_t arcs = n * (n - 1);
+            first = n == 4 ? t : first;
+            printf("| %-27s | %5u | %10u | %10.2f | %13.1f |\n", k->name, n, arcs, 1000 * t / arcs, t / first);
+        }
     }
-    return 0;
 }
 
-/* a state file or a run, and what both sides write and answer: number, place or length, bytes used or rounds */
-static const uint8_t field[44] = {1, 4, 0, 2, 0, 1, 0, 1, 2, 0, 3, 0, 4, 2, 1, 0, 0, 1, 2, 1, 2, 0,
-                                  1, 2, 2, 1, 0, 1, 2, 2, 3, 0, 1, 2, 3, 0, 0, 4, 2, 3, 2, 0, 1, 0};
-static uint8_t file[sizeof field + ROUNDS];
+/* ---- files: what both sides answer is number, place or length, bytes used or rounds */
+
+static const uint8_t field[64] = {1, 4, 0, 2, 0, 1, 0, 1, 2, 0, 3, 0, 4, 2, 1, 0, 0, 1, 2, 1, 2, 0, 1, 2, 2, 1, 0, 1, 2, 2, 3, 0,
+                                  1, 2, 3, 0, 0, 4, 2, 3, 2, 0, 1, 0, 6, 6, 6, 6, 2, 0, 1, 0, 0, 2, 1, 0, 0, 0, 6, 6, 6, 6, 6, 6};
+#define FIELD_IMAGE 44
+static uint8_t file[FIELD_IMAGE + ROUNDS];
 static uint64_t size;
-static uint8_t proved_out[IMAGE], plain_out[IMAGE];
-static uint64_t proved_answer[3], plain_answer[3];
 
 static void answered(struct plain_answer a)
 {
-    plain_answer[0] = a.number;
+    plain_answer[0] = (uint64_t)a.number;
     plain_answer[1] = a.place;
 }
 
@@ -118,82 +204,75 @@ static void proved_open(void) { bench_open(file, size, proved_answer, words); }
 static void plain_opened(void) { answered(plain_open(&plain, file, size, &plain_answer[2])); }
 static void proved_run(void) { bench_run(file, size, proved_answer, words); }
 static void plain_ran(void) { answered(plain_run(&plain, file, size, &plain_answer[2])); }
-static void proved_write(void) { bench_image(words, proved_out, IMAGE, proved_answer); }
-static void plain_write(void) { plain_answer[0] = plain_image(&plain, plain_out, IMAGE, &plain_answer[1]); }
+static void proved_call(void) { proved_answer[0] = gerqalli_run(file, size, proved_out, sizeof proved_out); }
+static void plain_called(void) { plain_answer[0] = plain_call(file, size, plain_out, sizeof plain_out); }
 
-/* both answer the same, and then write the same image */
+/* both answer the same, and then have the same network */
 static int same_files(work a, work b)
 {
     memset(words, 0xff, sizeof words);
     memset(&plain, 0xff, sizeof plain);
     a();
     b();
-    if (memcmp(proved_answer, plain_answer, sizeof plain_answer))
-        return 0;
-    memset(proved_out, 0xff, IMAGE);
-    memset(plain_out, 0xff, IMAGE);
-    proved_write();
-    plain_write();
-    return proved_answer[0] == plain_answer[0] && proved_answer[1] == plain_answer[1] && !memcmp(proved_out, plain_out, IMAGE);
+    return !memcmp(proved_answer, plain_answer, sizeof plain_answer) && same();
 }
 
-/* every arc, row and report of 32 nodes */
-static void full_file(void)
+static int same_calls(void)
 {
-    build(32, 1);
+    memset(proved_out, 0xff, sizeof proved_out);
+    memset(plain_out, 0xff, sizeof plain_out);
+    proved_call();
+    plain_called();
+    return proved_answer[0] == plain_answer[0] && proved_answer[0] % 32 == 0 && !memcmp(proved_out, plain_out, sizeof plain_out);
+}
+
+/* every arc, row and report of 32 nodes, and then full rounds */
+static void full_file(uint32_t more)
+{
+    build(NODES, 1, 0);
     plain_full_round(&plain);
     plain_full_round(&plain);
-    plain_image(&plain, file, IMAGE, &size);
+    held(plain_image(&plain, file, GERQALLI_MAX_IMAGE, &size) == 0 && size == GERQALLI_MAX_IMAGE, "full image");
+    memset(file + size, 6, more);
+    size += more;
 }
 
-static void field_file(void)
-{
-    memcpy(file, field, sizeof field);
-    memset(file + sizeof field, 6, ROUNDS);
-    size = sizeof file;
-}
-
-/* the two sides in turn, so that other load meets both alike */
 static void file_line(const char *name, uint32_t n, int count, work a, work b)
 {
-    double p = 1e18, q = 1e18, t;
-    for (int k = 0; k < 3; k++) {
-        t = measure(a, count);
-        p = t < p ? t : p;
-        t = measure(b, count);
-        q = t < q ? t : q;
-    }
-    printf("%-22s %5u %10.3f %10.3f %8.2f\n", name, n, p, q, p / q);
+    held(same_files(a, b), name);
+    print(name, n, measure(a, b, count));
+    held(same_files(a, b), name);
 }
 
-static int files(void)
+static void call_line(const char *name, uint32_t n, int count)
 {
-    full_file();
-    if (size != IMAGE || !same_files(proved_open, plain_opened)) {
-        printf("open: answers or images differ\n");
-        return 1;
-    }
-    file_line("open, full image", 32, 400, proved_open, plain_opened);
-    file_line("write, full image", 32, 400, proved_write, plain_write);
-    field_file();
-    if (!same_files(proved_run, plain_ran)) {
-        printf("run: answers or images differ\n");
-        return 1;
-    }
-    file_line("run, 1000000 rounds", 4, 1, proved_run, plain_ran);
-    return 0;
+    held(same_calls(), name);
+    print(name, n, measure(proved_call, plain_called, count));
+    held(same_calls(), name);
+}
+
+static void file_lines(void)
+{
+    full_file(0);
+    file_line("open, full image", NODES, 400, proved_open, plain_opened);
+    print("write, full image", NODES, measure(proved_write, plain_write, 400));
+    held(same(), "write, full image");
+    call_line("C call, full image", NODES, 200);
+    full_file(10);
+    call_line("C call, and 10 full rounds", NODES, 200);
+    memcpy(file, field, sizeof field);
+    size = sizeof field;
+    call_line("C call, the four-node field", 4, 4000);
+    memset(file + FIELD_IMAGE, 6, ROUNDS);
+    size = sizeof file;
+    file_line("run, 1000000 full rounds", 4, 1, proved_run, plain_ran);
 }
 
 int main(void)
 {
-    int bad = 0;
-    printf("%-22s %5s %10s %10s %8s\n", "microseconds", "nodes", "proved", "plain C", "ratio");
-    for (uint32_t n = 4; n <= 32; n *= 2)
-        bad |= line("full round, dense", n, 1, proved_full, plain_full);
-    for (uint32_t n = 4; n <= 32; n *= 2)
-        bad |= line("marked round, dense", n, 1, proved_marked, plain_marked);
-    bad |= line("full round, sparse", 32, 8, proved_full, plain_full);
-    bad |= line("marked round, sparse", 32, 8, proved_marked, plain_marked);
-    bad |= files();
+    title("microseconds");
+    round_lines();
+    file_lines();
+    growth_lines();
     return bad;
 }

@@ -2,6 +2,7 @@
 #include "plain.h"
 
 #define MAX_LABEL 2031585u
+#define MAX_RUN 1048576
 
 static const uint16_t grades[16] = {0, 600, 480, 380, 300, 240, 190, 150, 120, 95, 75, 60, 48, 38, 30, 24};
 
@@ -305,4 +306,17 @@ int plain_image(const struct plain_net *x, uint8_t *out, uint64_t room, uint64_t
     *p = 0;
     *length = whole;
     return 0;
+}
+
+uint64_t plain_call(const uint8_t *run, uint64_t size, uint8_t *out, uint64_t room)
+{
+    struct plain_net x;
+    uint64_t rounds, length;
+    if (size > MAX_RUN)
+        return 3;
+    struct plain_answer ran = plain_run(&x, run, size, &rounds);
+    if (ran.number)
+        return 32 * ran.place + (uint64_t)ran.number;
+    int number = plain_image(&x, out, room, &length);
+    return number ? (uint64_t)number : 32 * length;
 }

@@ -27,4 +27,6 @@ struct plain_answer plain_open(struct plain_net *x, const uint8_t *in, uint64_t 
 struct plain_answer plain_run(struct plain_net *x, const uint8_t *in, uint64_t size, uint64_t *rounds);
 /* writes nothing where it is refused; length is then 0 */
 int plain_image(const struct plain_net *x, uint8_t *out, uint64_t room, uint64_t *length);
+/* the C call: 32 times the length of the image written, or 32 times the place plus the number */
+uint64_t plain_call(const uint8_t *run, uint64_t size, uint8_t *out, uint64_t room);
 #endif
