@@ -1,8 +1,9 @@
 // The arcs of a random field: their costs, changes, grades and removals, in the core and in the program's own costs.
 use crate::calls;
+use crate::central;
+use crate::central::Costs;
 use crate::random;
 use crate::tally;
-use central::Costs;
 use memory::Network;
 
 // What a field is made of, and whether its differences are told.

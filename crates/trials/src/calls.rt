@@ -1,4 +1,5 @@
 // What the calls of the core answer, as plain numbers, and comparisons of them.
+use crate::central;
 use crate::tally;
 use memory::HeldRead;
 use memory::Network;

@@ -2,9 +2,10 @@
 use crate::arcs::Field;
 use crate::calls;
 use crate::calls::Values;
+use crate::central;
+use crate::central::Costs;
+use crate::central::Settled;
 use crate::tally;
-use central::Costs;
-use central::Settled;
 use memory::Network;
 
 // ---- costs

@@ -2,9 +2,10 @@
 use crate::arcs;
 use crate::arcs::Field;
 use crate::calls;
+use crate::central;
+use crate::central::Costs;
 use crate::random;
 use crate::tally;
-use central::Costs;
 use memory::Network;
 
 // The largest label.

@@ -3,6 +3,7 @@
 // Arguments: a seed and a number of fields; without them 1 and 2,000. It prints counts, and the first few differences.
 mod arcs;
 mod calls;
+mod central;
 mod compare;
 mod counts;
 mod garbage;

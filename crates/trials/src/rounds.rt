@@ -1,6 +1,7 @@
 // Rounds of a stretch: each arc is heard at least once in any W successive rounds, and otherwise as the losses are.
 use crate::arcs::Field;
 use crate::calls;
+use crate::central;
 use crate::random;
 use crate::tally;
 use memory::Network;

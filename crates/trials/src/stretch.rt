@@ -1,6 +1,9 @@
 // A field: its stretches, what comes before each, and what is compared in it.
 use crate::arcs;
 use crate::arcs::Field;
+use crate::central;
+use crate::central::Costs;
+use crate::central::Settled;
 use crate::compare;
 use crate::counts;
 use crate::counts::CHANGES;
@@ -23,8 +26,6 @@ use crate::rounds::Loss;
 use crate::rounds::Marks;
 use crate::rounds::Past;
 use crate::tally;
-use central::Costs;
-use central::Settled;
 use memory::Network;
 ghost use Prim.Native.Nat.{_≤_};
 

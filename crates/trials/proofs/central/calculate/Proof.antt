@@ -1,9 +1,9 @@
--- `central::calculate` ends: as many turns are left as nodes that may not be done.
+-- `trials::central::calculate` ends: as many turns are left as nodes that may not be done.
 -- Assumes nothing.
 use borrow.Author.Needs.{needs}
 use Prim.Native.Nat.{_≤_, _-_}
-use Rattle.central.proofs.calculate.Statement.{statement}
-use Rattle.central.proofs.calculate.Tie as tie
+use Rattle.trials.proofs.central.calculate.Statement.{statement}
+use Rattle.trials.proofs.central.calculate.Tie as tie
 
 abbrev Inv-loop : tie.InvT-loop
 Inv-loop costs origin settled₀ done₀ counter₀ settled done counter = counter ≤ 32

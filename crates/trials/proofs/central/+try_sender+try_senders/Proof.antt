@@ -1,20 +1,20 @@
--- `central::try_sender` and `central::try_senders` call each other, and end: the depth falls from one node to the next.
+-- `trials::central::try_sender` and `trials::central::try_senders` call each other, and end: the depth falls from one node to the next.
 -- Assumes nothing.
 use borrow.Author.Needs.{needs}
 use native.Mathlib.Omega.{arith}
 use Prim.Native.Nat.{ℕ, _+_, _*_, _-_, _<_, _≤_}
 use borrow.Fn.Kinds.{In}
 use borrow.Fn.PlainCycle.{Measures, is, falls, and}
-use Rattle.central.proofs.try_sender.Reads as one
-use Rattle.central.proofs.try_sender.Kinds as one-kinds
-use Rattle.central.proofs.+try_sender+try_senders.Lts-try_sender as one-lts
-use Rattle.central.proofs.try_senders.Reads as all
-use Rattle.central.proofs.try_senders.Kinds as all-kinds
-use Rattle.central.proofs.+try_sender+try_senders.Lts-try_senders as all-lts
-use Rattle.central.proofs.bit.Reads as bit
-use Rattle.central.proofs.left_before.Reads as left-before
-use Rattle.central.proofs.+try_sender+try_senders.{statement}
-use Rattle.central.proofs.+try_sender+try_senders.Tie.{close}
+use Rattle.trials.proofs.central.try_sender.Reads as one
+use Rattle.trials.proofs.central.try_sender.Kinds as one-kinds
+use Rattle.trials.proofs.central.+try_sender+try_senders.Lts-try_sender as one-lts
+use Rattle.trials.proofs.central.try_senders.Reads as all
+use Rattle.trials.proofs.central.try_senders.Kinds as all-kinds
+use Rattle.trials.proofs.central.+try_sender+try_senders.Lts-try_senders as all-lts
+use Rattle.trials.proofs.central.bit.Reads as bit
+use Rattle.trials.proofs.central.left_before.Reads as left-before
+use Rattle.trials.proofs.central.+try_sender+try_senders.{statement}
+use Rattle.trials.proofs.central.+try_sender+try_senders.Tie.{close}
 
 abbrev μ-one : Measures 2 one-kinds.ps ℕ
 μ-one κs a = 2 * a .0

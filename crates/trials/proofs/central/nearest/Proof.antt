@@ -1,9 +1,9 @@
--- `central::nearest` ends: as many nodes are left as it has still to compare.
+-- `trials::central::nearest` ends: as many nodes are left as it has still to compare.
 -- Assumes nothing.
 use borrow.Author.Needs.{needs}
 use Prim.Native.Nat.{_≤_, _-_}
-use Rattle.central.proofs.nearest.Statement.{statement}
-use Rattle.central.proofs.nearest.Tie as tie
+use Rattle.trials.proofs.central.nearest.Statement.{statement}
+use Rattle.trials.proofs.central.nearest.Tie as tie
 
 abbrev Inv-loop : tie.InvT-loop
 Inv-loop settled done best₀ y₀ best y = y ≤ 32

@@ -1,9 +1,9 @@
--- `central::lowest_sender` ends: as many senders are left as it has still to try.
+-- `trials::central::lowest_sender` ends: as many senders are left as it has still to try.
 -- Assumes nothing.
 use borrow.Author.Needs.{needs}
 use Prim.Native.Nat.{_≤_, _-_}
-use Rattle.central.proofs.lowest_sender.Statement.{statement}
-use Rattle.central.proofs.lowest_sender.Tie as tie
+use Rattle.trials.proofs.central.lowest_sender.Statement.{statement}
+use Rattle.trials.proofs.central.lowest_sender.Tie as tie
 
 abbrev Inv-loop : tie.InvT-loop
 Inv-loop costs settled y found₀ k₀ found k = k ≤ 32

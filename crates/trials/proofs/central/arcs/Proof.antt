@@ -1,9 +1,9 @@
--- `central::arcs` ends: as many pairs are left as it has still to look at.
+-- `trials::central::arcs` ends: as many pairs are left as it has still to look at.
 -- Assumes nothing.
 use borrow.Author.Needs.{needs}
 use Prim.Native.Nat.{_≤_, _-_}
-use Rattle.central.proofs.arcs.Statement.{statement}
-use Rattle.central.proofs.arcs.Tie as tie
+use Rattle.trials.proofs.central.arcs.Statement.{statement}
+use Rattle.trials.proofs.central.arcs.Tie as tie
 
 abbrev Inv-loop : tie.InvT-loop
 Inv-loop costs arcs₀ at₀ arcs at = at ≤ 1024

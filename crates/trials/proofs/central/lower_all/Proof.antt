@@ -1,9 +1,9 @@
--- `central::lower_all` ends: as many receivers are left as it has still to lower.
+-- `trials::central::lower_all` ends: as many receivers are left as it has still to lower.
 -- Assumes nothing.
 use borrow.Author.Needs.{needs}
 use Prim.Native.Nat.{_≤_, _-_}
-use Rattle.central.proofs.lower_all.Statement.{statement}
-use Rattle.central.proofs.lower_all.Tie as tie
+use Rattle.trials.proofs.central.lower_all.Statement.{statement}
+use Rattle.trials.proofs.central.lower_all.Tie as tie
 
 abbrev Inv-loop : tie.InvT-loop
 Inv-loop costs settled₀ sender r₀ settled r = r ≤ 32
