@@ -1,7 +1,8 @@
 /*
  * Microseconds to a call, the proved one beside the plain C one: rounds, opening, image writing, runs and the C call; and how a round grows with
- * the number of nodes. Each line measures the two sides in turn, so that other load meets both alike, and takes the least of several runs. Before and
- * after each line both sides are held to the same network and the same answers; the exit status is not 0 where they differ.
+ * the number of nodes. Each line measures the two sides in turn, a few dozen microseconds each, and takes the least of many such turns, so that other
+ * load meets both alike and leaves some turns alone. Before and after each line both sides are held to the same network and the same answers; the
+ * exit status is not 0 where they differ.
  */
 #include <stdio.h>
 #include <string.h>
@@ -18,7 +19,8 @@ extern void bench_image(const uint32_t *net, uint8_t *out, uint64_t room, uint64
 
 #define NODES 32
 #define WORDS 3200
-#define RUNS 27
+#define TURNS 1000
+#define LONG_TURNS 27
 #define ROUNDS 1000000
 #define SETS 16
 
@@ -55,11 +57,11 @@ static double timed(work f, int count)
     return (now() - t) / count;
 }
 
-/* the least of several runs, the two sides in turn */
-static struct times measure(work proved, work other, int count)
+/* the least of several turns of count calls, the two sides in turn */
+static struct times measure(work proved, work other, int turns, int count)
 {
     struct times least = {1e18, 1e18};
-    for (int k = 0; k < RUNS; k++) {
+    for (int k = 0; k < turns; k++) {
         double a = timed(proved, count), b = timed(other, count);
         least.proved = a < least.proved ? a : least.proved;
         least.plain = b < least.plain ? b : least.plain;
@@ -142,7 +144,7 @@ static struct times rounds(uint32_t n, uint32_t sparse, uint32_t lost, work prov
         other();
         held(same(), "round");
     }
-    struct times t = measure(proved, other, 200000 / (int)(n * n));
+    struct times t = measure(proved, other, TURNS, 1 + 20000 / (int)(n * n));
     held(same(), "rounds");
     return t;
 }
@@ -226,46 +228,62 @@ static int same_calls(void)
     return proved_answer[0] == plain_answer[0] && proved_answer[0] % 32 == 0 && !memcmp(proved_out, plain_out, sizeof plain_out);
 }
 
-/* every arc, row and report of 32 nodes, and then full rounds */
+/* every arc, row and report of n nodes */
+static void full_network(uint32_t n)
+{
+    build(n, 1, 0);
+    for (int k = 0; k < 2; k++) {
+        proved_full();
+        plain_full();
+    }
+}
+
+/* that of 32 nodes as a file, and then full rounds */
 static void full_file(uint32_t more)
 {
-    build(NODES, 1, 0);
-    plain_full_round(&plain);
-    plain_full_round(&plain);
+    full_network(NODES);
     held(plain_image(&plain, file, GERQALLI_MAX_IMAGE, &size) == 0 && size == GERQALLI_MAX_IMAGE, "full image");
     memset(file + size, 6, more);
     size += more;
 }
 
-static void file_line(const char *name, uint32_t n, int count, work a, work b)
+static void file_line(const char *name, uint32_t n, int turns, int count, work a, work b)
 {
     held(same_files(a, b), name);
-    print(name, n, measure(a, b, count));
+    print(name, n, measure(a, b, turns, count));
     held(same_files(a, b), name);
 }
 
 static void call_line(const char *name, uint32_t n, int count)
 {
     held(same_calls(), name);
-    print(name, n, measure(proved_call, plain_called, count));
+    print(name, n, measure(proved_call, plain_called, TURNS, count));
     held(same_calls(), name);
+}
+
+static void write_line(const char *name, uint32_t n)
+{
+    full_network(n);
+    held(same(), name);
+    print(name, n, measure(proved_write, plain_write, TURNS, 1 + 10000 / (int)(n * n)));
+    held(same(), name);
 }
 
 static void file_lines(void)
 {
     full_file(0);
-    file_line("open, full image", NODES, 400, proved_open, plain_opened);
-    print("write, full image", NODES, measure(proved_write, plain_write, 400));
-    held(same(), "write, full image");
-    call_line("C call, full image", NODES, 200);
+    file_line("open, full image", NODES, TURNS, 5, proved_open, plain_opened);
+    for (uint32_t n = 4; n <= NODES; n *= 2)
+        write_line("write, full image", n);
+    call_line("C call, full image", NODES, 4);
     full_file(10);
-    call_line("C call, and 10 full rounds", NODES, 200);
+    call_line("C call, and 10 full rounds", NODES, 2);
     memcpy(file, field, sizeof field);
     size = sizeof field;
-    call_line("C call, the four-node field", 4, 4000);
+    call_line("C call, the four-node field", 4, 100);
     memset(file + FIELD_IMAGE, 6, ROUNDS);
     size = sizeof file;
-    file_line("run, 1000000 full rounds", 4, 1, proved_run, plain_ran);
+    file_line("run, 1000000 full rounds", 4, LONG_TURNS, 1, proved_run, plain_ran);
 }
 
 int main(void)

@@ -16,10 +16,6 @@ measures-none m p = record { exact = sym (ap length p); most = omega arith }
 pub measures-some : {w v : List ℕ} {m n : ℕ} → w ≡ v → length v ≡ n → n ≤ m → Measures w m n
 measures-some p q h = record { exact = sym (ap length p ∙ q); most = h }
 
--- the same bytes in other words
-pub measures-as : {w v : List ℕ} {m r : ℕ} → w ≡ v → Measures v m r → Measures w m r
-measures-as p h = rw p h
-
 module _ (f : ℕ → List ℕ) where
   -- of no numbers
   pub each-zero : (k : ℕ) → each f k 0 ≡ []

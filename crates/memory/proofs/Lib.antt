@@ -1,5 +1,6 @@
 pub mod Store
 pub mod Leaving
+pub mod Wide
 mod Starting
 mod Changing
 mod Reading

@@ -1,7 +1,7 @@
 -- What the words give where a row, a cost or a report is read.
 -- Assumes nothing.
 use mathlib.Core.Path.{_≡_, sym, ap, _∙_}
-use mathlib.Core.Bool.{false, cond}
+use mathlib.Core.Bool.{true, false, cond}
 use mathlib.Core.Logic.{_≢_}
 use mathlib.Core.List.{List}
 use Prim.Native.Nat.{ℕ, _+_, _*_, _<_, _≤_}
@@ -13,11 +13,11 @@ use Rattle.network.specs.Faults.{nodeFault, pairFault}
 use Rattle.network.specs.Network.{Row, Net}
 use Rattle.network.specs.Words.{reportOf}
 use Rattle.network.proofs.FaultLaws.{node-free, pair-says}
-use Rattle.memory.specs.Layout.{look, view, rowOf, heldLabels, heldLists, rowLabels, rowLists, rowPredecessors}
-use Rattle.memory.specs.Answers.{RowAnswer, rowHops, readRow, rowMeans, readHeld, heldMeans}
+use Rattle.memory.specs.Layout.{netOf, look, view, wide, rowOf, arcCosts, heldLabels, heldLists, rowLabels, rowLists, rowPredecessors}
+use Rattle.memory.specs.Answers.{RowAnswer, rowHops, readRow, rowMeans, readCost, costMeans, readHeld, heldMeans}
 use Rattle.memory.specs.declared.RowRead.the-variants as R
 use Rattle.memory.specs.declared.HeldRead.the-variants as H
-use Rattle.memory.proofs.Store.{few, read-relay, read-origin, read-held}
+use Rattle.memory.proofs.Store.{few, cell-in, read-relay, read-origin}
 
 -- ---- rows
 
@@ -52,17 +52,35 @@ module _ (xs : List ℕ) (y : ℕ) (node : y < view xs .nodes) where
     row-route k e q =
         rw q (sym (read-node (view xs) y node ∙ ap answer (sym (read-relay xs y node relay) ∙ rw (ne-eqb (look xs (rowLists + y)) 0 e))))
 
--- ---- held reports
+-- ---- pairs of 32 nodes
 
-module _ (xs : List ℕ) (s r : ℕ) (e : pairFault (view xs .nodes) s r ≡ false) where
-  held-is : reportOf (look xs (heldLabels + (r * 32 + s))) (look xs (heldLists + (r * 32 + s))) ≡ view xs .held s r
-  held-is = let p = pair-says (view xs .nodes) s r e in read-held xs s r (p .0) (p .1)
+module _ (xs : List ℕ) (s r : ℕ) (e : pairFault 32 s r ≡ true) where
+  pub pair-cost-refused : costMeans (record { number = 3; cost = 0 }) ≡ readCost (wide xs) s r
+  unfolding costMeans readCost wide netOf
+  pair-cost-refused = rw e
 
-  pub held-none : look xs (heldLists + (r * 32 + s)) ≡ 0 → heldMeans H.Empty ≡ readHeld (view xs) s r
-  unfolding heldMeans readHeld reportOf
-  held-none z = rw (e, ← held-is, eq-eqb (look xs (heldLists + (r * 32 + s))) 0 z)
+  pub pair-held-refused : heldMeans H.Refused ≡ readHeld (wide xs) s r
+  unfolding heldMeans readHeld wide netOf
+  pair-held-refused = rw e
 
-  pub held-told : look xs (heldLists + (r * 32 + s)) ≢ 0
-      → heldMeans (H.Report (look xs (heldLabels + (r * 32 + s))) (look xs (heldLists + (r * 32 + s)))) ≡ readHeld (view xs) s r
-  unfolding heldMeans readHeld reportOf
-  held-told z = rw (e, ← held-is, ne-eqb (look xs (heldLists + (r * 32 + s))) 0 z)
+module _ (xs : List ℕ) (s r : ℕ) (e : pairFault 32 s r ≡ false) where
+  held-is : reportOf (look xs (heldLabels + (r * 32 + s))) (look xs (heldLists + (r * 32 + s))) ≡ wide xs .held s r
+  unfolding wide netOf
+  held-is =
+      let p = pair-says 32 s r e in
+      λ j. reportOf (sym (cell-in 32 (look xs) heldLabels s r (p .0) (p .1)) j) (sym (cell-in 32 (look xs) heldLists s r (p .0) (p .1)) j)
+
+  pub pair-cost-read : costMeans (record { number = 0; cost = look xs (arcCosts + (r * 32 + s)) }) ≡ readCost (wide xs) s r
+  unfolding costMeans readCost wide netOf
+  pair-cost-read =
+      let p = pair-says 32 s r e in
+      rw (e, cell-in 32 (look xs) arcCosts s r (p .0) (p .1))
+
+  pub pair-held-none : look xs (heldLists + (r * 32 + s)) ≡ 0 → heldMeans H.Empty ≡ readHeld (wide xs) s r
+  unfolding heldMeans readHeld reportOf wide netOf
+  pair-held-none z = rw (e, ← held-is, eq-eqb (look xs (heldLists + (r * 32 + s))) 0 z)
+
+  pub pair-held-told : look xs (heldLists + (r * 32 + s)) ≢ 0
+      → heldMeans (H.Report (look xs (heldLabels + (r * 32 + s))) (look xs (heldLists + (r * 32 + s)))) ≡ readHeld (wide xs) s r
+  unfolding heldMeans readHeld reportOf wide netOf
+  pair-held-told z = rw (e, ← held-is, ne-eqb (look xs (heldLists + (r * 32 + s))) 0 z)

@@ -70,3 +70,7 @@ look xs k = getD xs k 0
 -- the network that words give
 unfoldable pub view : List ℕ → Net
 view xs = netOf (min (look xs 0) maxNodes) (look xs 1) (look xs)
+
+-- the network of 32 nodes that words give, whatever they say of n
+unfoldable pub wide : List ℕ → Net
+wide xs = netOf maxNodes (look xs 1) (look xs)

@@ -10,7 +10,7 @@ ghost use lib.Dec.{eqb};
 ghost use Rattle.network.specs.Network.{freshNet, freshOf};
 ghost use Rattle.network.specs.Placing.{placeRowNumber, placeRowOf, placeReportNumber, placeReportOf};
 ghost use Rattle.network.specs.Change.{changed, changeOf, gradeOf};
-ghost use Rattle.memory.specs.Layout.{words, view};
+ghost use Rattle.memory.specs.Layout.{words, view, wide};
 ghost use Rattle.memory.specs.Inner.{Node, Blank};
 ghost use Rattle.memory.specs.Answers.{Leaves, Starts, readRow, rowMeans, readCost, costMeans, readHeld, heldMeans};
 
@@ -236,24 +236,27 @@ fn cost_word(net: &[u32], sender: u32, receiver: u32) -> u32
     net[COSTS + (receiver as usize * 32 + sender as usize)]
 }
 
-// The cost of the arc from sender to receiver.
-pub fn arc_cost(net: &Network, sender: u32, receiver: u32) -> CostRead
-    ensures { λ r. ⌜ costMeans r ≡ readCost (view (now (net .entry))) sender receiver ⌝ }
+// What the words hold of a pair of 32 nodes, whatever n is: the next two calls. For two nodes below n they answer what `arc_cost` and `held` do; n is
+// not read, so that a caller that keeps to nodes below n does not have it read for each pair.
+
+// The cost of the pair.
+pub fn pair_cost(net: &Network, sender: u32, receiver: u32) -> CostRead
+    ensures { λ r. ⌜ costMeans r ≡ readCost (wide (now (net .entry))) sender receiver ⌝ }
 {
-    if network::pair_fault(nodes(net), sender, receiver) {
+    if network::pair_fault(network::MAX_NODES, sender, receiver) {
         return CostRead { number: 3, cost: 0 };
     }
     CostRead {
         number: 0,
-        cost: cost_word(net, sender, receiver),
+        cost: net[COSTS + (receiver as usize * 32 + sender as usize)],
     }
 }
 
-// The report that the arc from sender to receiver holds.
-pub fn held(net: &Network, sender: u32, receiver: u32) -> HeldRead
-    ensures { λ r. ⌜ heldMeans r ≡ readHeld (view (now (net .entry))) sender receiver ⌝ }
+// The report of the pair.
+pub fn pair_held(net: &Network, sender: u32, receiver: u32) -> HeldRead
+    ensures { λ r. ⌜ heldMeans r ≡ readHeld (wide (now (net .entry))) sender receiver ⌝ }
 {
-    if network::pair_fault(nodes(net), sender, receiver) {
+    if network::pair_fault(network::MAX_NODES, sender, receiver) {
         return HeldRead::Refused;
     }
     let at = receiver as usize * 32 + sender as usize;
@@ -265,6 +268,26 @@ pub fn held(net: &Network, sender: u32, receiver: u32) -> HeldRead
         label: net[HELD_LABELS + at],
         list: list,
     }
+}
+
+// The cost of the arc from sender to receiver.
+pub fn arc_cost(net: &Network, sender: u32, receiver: u32) -> CostRead
+    ensures { λ r. ⌜ costMeans r ≡ readCost (view (now (net .entry))) sender receiver ⌝ }
+{
+    if network::pair_fault(nodes(net), sender, receiver) {
+        return CostRead { number: 3, cost: 0 };
+    }
+    pair_cost(net, sender, receiver)
+}
+
+// The report that the arc from sender to receiver holds.
+pub fn held(net: &Network, sender: u32, receiver: u32) -> HeldRead
+    ensures { λ r. ⌜ heldMeans r ≡ readHeld (view (now (net .entry))) sender receiver ⌝ }
+{
+    if network::pair_fault(nodes(net), sender, receiver) {
+        return HeldRead::Refused;
+    }
+    pair_held(net, sender, receiver)
 }
 
 // ---- placing

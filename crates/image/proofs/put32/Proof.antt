@@ -1,45 +1,68 @@
--- `image::put32` meets its contract: the two halves, one after the other; the test passes.
+-- `image::put32` meets its contract: four bytes, stored one after the other.
 -- Assumes nothing.
+use borrow.Author.Needs.{needs}
 use native.Mathlib.Omega.{arith}
-use Rattle.records.specs.Numbers.{be32}
-use Rattle.filling.proofs.Parts.{wrote-then}
+use lib.ListN.{length-set}
+use denote.Ref.{now}
+use Rattle.records.specs.Numbers.{be8, be16, be32}
+use Rattle.image.proofs.Stores.{four}
 use Rattle.image.proofs.put32.Statement.{statement}
 use Rattle.image.proofs.put32.Tie as tie
 
-returns : tie.Need-returns
-returns c = absurd (omega arith)
+cast-out : tie.Need-cast-out
+cast-out c = omega arith
 
-put-half-requires : tie.Need-put-half-requires
-put-half-requires c κs = omega arith
+slice-write-out : tie.Need-slice-write-out
+slice-write-out c = omega arith
 
-sub-put-half : tie.Need-sub-put-half
-sub-put-half c = omega arith
+cast-out-2 : tie.Need-cast-out-2
+cast-out-2 c = omega arith
 
-part-put-half-start : tie.Need-part-put-half-start
-part-put-half-start c = omega arith
+add-out : tie.Need-add-out
+add-out c = omega arith
 
-part-put-half-end : tie.Need-part-put-half-end
-part-put-half-end c = omega arith
+slice-write-out-2 : tie.Need-slice-write-out-2
+slice-write-out-2 c = simp length-set (omega arith)
 
-put-half-requires-2 : tie.Need-put-half-requires-2
-put-half-requires-2 c κs = omega arith
+cast-out-3 : tie.Need-cast-out-3
+cast-out-3 c = omega arith
+
+add-out-2 : tie.Need-add-out-2
+add-out-2 c = omega arith
+
+slice-write-out-3 : tie.Need-slice-write-out-3
+slice-write-out-3 c = simp length-set (omega arith)
+
+cast-out-4 : tie.Need-cast-out-4
+cast-out-4 c = omega arith
+
+add-out-3 : tie.Need-add-out-3
+add-out-3 c = omega arith
+
+slice-write-out-4 : tie.Need-slice-write-out-4
+slice-write-out-4 c = simp length-set (omega arith)
 
 same-length : tie.Need-same-length
-same-length c = omega arith
+same-length c = search needs
 
-returns-2 : tie.Need-returns-2
-unfolding be32
-returns-2 c = wrote-then (c .before .before .before .before .before .before .put-half .ensures) (c .before .before .put-half2 .ensures)
+returns : tie.Need-returns
+unfolding be32 be16 be8
+returns c = four (now (c .args .out)) (c .args .at) _ _ _ _
 
 pub put32-spec : {M : Type 1} → statement M
 put32-spec =
     tie.close
     (tie.spec
-    returns
-    put-half-requires
-    sub-put-half
-    part-put-half-start
-    part-put-half-end
-    put-half-requires-2
+    cast-out
+    slice-write-out
+    cast-out-2
+    add-out
+    slice-write-out-2
+    cast-out-3
+    add-out-2
+    slice-write-out-3
+    cast-out-4
+    add-out-3
+    slice-write-out-4
     same-length
-    returns-2)
+    returns)

@@ -1,79 +1,61 @@
--- `image::put_arc` meets its contract: its numbers, one after the other.
+-- `image::put_arc` meets its contract: five bytes, stored one by one.
 -- Assumes nothing.
+use borrow.Author.Needs.{needs}
 use native.Mathlib.Omega.{arith}
+use lib.ListN.{length-set}
+use denote.Ref.{now}
 use Rattle.records.specs.Numbers.{be8, be16}
 use Rattle.records.specs.Records.{arcRecord}
-use Rattle.filling.proofs.Parts.{wrote-then}
+use Rattle.image.proofs.Stores.{stored-five}
 use Rattle.image.proofs.put_arc.Statement.{statement}
 use Rattle.image.proofs.put_arc.Tie as tie
 
-put8-requires : tie.Need-put8-requires
-put8-requires c κs = omega arith
+cast-out : tie.Need-cast-out
+cast-out c = omega arith
 
-sub-put8 : tie.Need-sub-put8
-sub-put8 c = omega arith
+slice-write-out : tie.Need-slice-write-out
+slice-write-out c = omega arith
 
-part-put8-start : tie.Need-part-put8-start
-part-put8-start c = omega arith
+cast-out-2 : tie.Need-cast-out-2
+cast-out-2 c = omega arith
 
-part-put8-end : tie.Need-part-put8-end
-part-put8-end c = omega arith
+slice-write-out-2 : tie.Need-slice-write-out-2
+slice-write-out-2 c = simp length-set (omega arith)
 
-put8-requires-2 : tie.Need-put8-requires-2
-put8-requires-2 c κs = omega arith
+slice-write-out-3 : tie.Need-slice-write-out-3
+slice-write-out-3 c = simp length-set (omega arith)
 
-sub-put8-2 : tie.Need-sub-put8-2
-sub-put8-2 c = omega arith
+cast-out-3 : tie.Need-cast-out-3
+cast-out-3 c = omega arith
 
-part-put8-start-2 : tie.Need-part-put8-start-2
-part-put8-start-2 c = omega arith
+slice-write-out-4 : tie.Need-slice-write-out-4
+slice-write-out-4 c = simp length-set (omega arith)
 
-part-put8-end-2 : tie.Need-part-put8-end-2
-part-put8-end-2 c = omega arith
+cast-out-4 : tie.Need-cast-out-4
+cast-out-4 c = omega arith
 
-put8-requires-3 : tie.Need-put8-requires-3
-put8-requires-3 c κs = omega arith
-
-sub-put16 : tie.Need-sub-put16
-sub-put16 c = omega arith
-
-part-put16-start : tie.Need-part-put16-start
-part-put16-start c = omega arith
-
-part-put16-end : tie.Need-part-put16-end
-part-put16-end c = omega arith
-
-put16-requires : tie.Need-put16-requires
-put16-requires c κs = omega arith
+slice-write-out-5 : tie.Need-slice-write-out-5
+slice-write-out-5 c = simp length-set (omega arith)
 
 same-length : tie.Need-same-length
-same-length c = omega arith
+same-length c = search needs
 
 returns : tie.Need-returns
 unfolding arcRecord be16 be8
-returns c =
-    let c1 = c .before .before in
-    let c2 = c1 .before .before .before .before in
-    let c3 = c2 .before .before .before .before in
-    let c4 = c3 .before .before .before .before in
-    wrote-then (wrote-then (wrote-then (c4 .put8 .ensures) (c3 .put82 .ensures)) (c2 .put83 .ensures)) (c1 .put16 .ensures)
+returns c = stored-five _ _ _ _ _ (now (c .args .out)) (c .pre)
 
 pub put-arc-spec : {M : Type 1} → statement M
 put-arc-spec =
     tie.close
     (tie.spec
-    put8-requires
-    sub-put8
-    part-put8-start
-    part-put8-end
-    put8-requires-2
-    sub-put8-2
-    part-put8-start-2
-    part-put8-end-2
-    put8-requires-3
-    sub-put16
-    part-put16-start
-    part-put16-end
-    put16-requires
+    cast-out
+    slice-write-out
+    cast-out-2
+    slice-write-out-2
+    slice-write-out-3
+    cast-out-3
+    slice-write-out-4
+    cast-out-4
+    slice-write-out-5
     same-length
     returns)

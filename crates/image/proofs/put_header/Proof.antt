@@ -1,62 +1,45 @@
--- `image::put_header` meets its contract: its numbers, one after the other.
+-- `image::put_header` meets its contract: three bytes.
 -- Assumes nothing.
+use borrow.Author.Needs.{needs}
 use native.Mathlib.Omega.{arith}
+use lib.ListN.{length-set}
+use denote.Ref.{now}
 use Rattle.records.specs.Numbers.{be8}
 use Rattle.records.specs.Records.{headerRecord}
-use Rattle.filling.proofs.Parts.{wrote-then}
+use Rattle.image.proofs.Stores.{stored-three}
 use Rattle.image.proofs.put_header.Statement.{statement}
 use Rattle.image.proofs.put_header.Tie as tie
 
-put8-requires : tie.Need-put8-requires
-put8-requires c κs = omega arith
+slice-write-out : tie.Need-slice-write-out
+slice-write-out c = omega arith
 
-sub-put8 : tie.Need-sub-put8
-sub-put8 c = omega arith
+cast-out : tie.Need-cast-out
+cast-out c = omega arith
 
-part-put8-start : tie.Need-part-put8-start
-part-put8-start c = omega arith
+slice-write-out-2 : tie.Need-slice-write-out-2
+slice-write-out-2 c = simp length-set (omega arith)
 
-part-put8-end : tie.Need-part-put8-end
-part-put8-end c = omega arith
+cast-out-2 : tie.Need-cast-out-2
+cast-out-2 c = omega arith
 
-put8-requires-2 : tie.Need-put8-requires-2
-put8-requires-2 c κs = omega arith
-
-sub-put8-2 : tie.Need-sub-put8-2
-sub-put8-2 c = omega arith
-
-part-put8-start-2 : tie.Need-part-put8-start-2
-part-put8-start-2 c = omega arith
-
-part-put8-end-2 : tie.Need-part-put8-end-2
-part-put8-end-2 c = omega arith
-
-put8-requires-3 : tie.Need-put8-requires-3
-put8-requires-3 c κs = omega arith
+slice-write-out-3 : tie.Need-slice-write-out-3
+slice-write-out-3 c = simp length-set (omega arith)
 
 same-length : tie.Need-same-length
-same-length c = omega arith
+same-length c = search needs
 
 returns : tie.Need-returns
 unfolding headerRecord be8
-returns c =
-    let c1 = c .before .before in
-    let c2 = c1 .before .before .before .before in
-    let c3 = c2 .before .before .before .before in
-    wrote-then (wrote-then (c3 .put8 .ensures) (c2 .put82 .ensures)) (c1 .put83 .ensures)
+returns c = stored-three _ _ _ (now (c .args .out)) (c .pre)
 
 pub put-header-spec : {M : Type 1} → statement M
 put-header-spec =
     tie.close
     (tie.spec
-    put8-requires
-    sub-put8
-    part-put8-start
-    part-put8-end
-    put8-requires-2
-    sub-put8-2
-    part-put8-start-2
-    part-put8-end-2
-    put8-requires-3
+    slice-write-out
+    cast-out
+    slice-write-out-2
+    cast-out-2
+    slice-write-out-3
     same-length
     returns)

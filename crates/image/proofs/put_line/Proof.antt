@@ -1,6 +1,5 @@
 -- `image::put_line` meets its contract. The loop's invariant: the records passed stand from the start on.
 -- Assumes nothing.
-use borrow.Author.Needs.{needs}
 use native.Mathlib.Omega.{arith}
 use Prim.Native.Nat.{_-_, _≤_}
 use mathlib.Core.Path.{_≡_, ap, subst}
@@ -8,9 +7,9 @@ use lib.ListN.{length}
 use denote.Ref.{now}
 use Rattle.memory.specs.Layout.{view}
 use Rattle.records.specs.Image.{each}
-use Rattle.image.specs.Lines.{recordAt}
 use Rattle.filling.specs.Filling.{Added}
-use Rattle.filling.proofs.Parts.{added-none, added-as, added-within, added-long, added-room, added-then}
+use Rattle.filling.proofs.Parts.{added-none, added-as, added-long, added-on}
+use Rattle.image.specs.Lines.{recordAt}
 use Rattle.image.proofs.Lengths.{each-zero, each-next, each-among}
 use Rattle.image.proofs.put_line.Statement.{statement}
 use Rattle.image.proofs.put_line.Tie as tie
@@ -27,29 +26,14 @@ loop-holds c =
     let f = recordAt (view (now (a .net))) (a .kind) (a .s) in
     (added-none (now (a .out)) (a .start) (each-zero f 0) (omega arith), omega arith)
 
-sub-put-record : tie.Need-sub-put-record Inv-loop μ-loop
-sub-put-record c = added-within (c .before .loop .inv .0)
-
-part-put-record-start : tie.Need-part-put-record-start Inv-loop μ-loop
-part-put-record-start c = added-within (c .before .loop .inv .0)
-
-part-put-record-end : tie.Need-part-put-record-end Inv-loop μ-loop
-part-put-record-end c = search needs
-
 put-record-requires : tie.Need-put-record-requires Inv-loop μ-loop
 put-record-requires c κs =
     let l = c .before .before .loop in
-    let a = c .before .before .before .before .args in
+    let b = c .before .before .before .before in
+    let a = b .args in
     let f = recordAt (view (now (a .net))) (a .kind) (a .s) in
-    added-room _ (l .inv .0) (omega (arith, l .inv .0 .place, each-among f (l .i) (a .n) (c .before .loop-test .taken)))
-
-add-at : tie.Need-add-at Inv-loop μ-loop
-add-at c =
-    let l = c .before .before .before .before .before .loop in
-    let a = c .before .before .before .before .before .before .before .args in
-    let f = recordAt (view (now (a .net))) (a .kind) (a .s) in
-    let used = c .before .before .put-record .ensures .used in
-    omega (arith, l .inv .0 .place, each-among f (l .i) (a .n) (c .before .before .before .before .loop-test .taken))
+    let whole = added-long (l .inv .0) (omega (arith, l .inv .0 .place, each-among f (l .i) (a .n) (c .before .loop-test .taken))) in
+    (omega arith, (omega arith, omega (arith, l .inv .0 .place, each-among f (l .i) (a .n) (c .before .loop-test .taken))))
 
 add-i : tie.Need-add-i Inv-loop μ-loop
 add-i c = omega arith
@@ -62,7 +46,7 @@ loop-again c =
     let l = c .before .before .before .before .before .loop in
     let a = c .before .before .before .before .before .before .before .args in
     let f = recordAt (view (now (a .net))) (a .kind) (a .s) in
-    (added-as (each-next f (l .i)) (added-then (l .inv .0) (c .before .before .put-record .ensures)), omega arith)
+    (added-as (each-next f (l .i)) (added-on (l .inv .0) (c .before .before .put-record .ensures)), omega arith)
 
 same-length : tie.Need-same-length Inv-loop μ-loop
 same-length c =
@@ -87,11 +71,7 @@ put-line-spec =
     Inv-loop
     μ-loop
     loop-holds
-    sub-put-record
-    part-put-record-start
-    part-put-record-end
     put-record-requires
-    add-at
     add-i
     loop-less
     loop-again

@@ -31,7 +31,7 @@ put-line-requires c κs =
     let l = c .before .before .loop in
     let a = c .before .before .before .before .args in
     let f = line (view (now (a .net))) (a .kind) (a .n) in
-    omega (arith, l .inv .0 .place, l .inv .1, each-among f (l .s) (a .n) (c .before .loop-test .taken))
+    (omega arith, (omega arith, omega (arith, l .inv .0 .place, l .inv .1, each-among f (l .s) (a .n) (c .before .loop-test .taken))))
 
 add-s : tie.Need-add-s Inv-loop μ-loop
 add-s c = omega arith

@@ -1,96 +1,62 @@
--- `image::put_report` meets its contract: its numbers, one after the other.
+-- `image::put_report` meets its contract: eleven bytes, of which two numbers first.
 -- Assumes nothing.
+use borrow.Author.Needs.{needs}
 use native.Mathlib.Omega.{arith}
-use Rattle.records.specs.Numbers.{be8, be16, be32}
-use Rattle.records.specs.Records.{reportRecord}
-use Rattle.filling.proofs.Parts.{wrote-then}
+use lib.ListN.{length-set}
+use denote.Ref.{now}
+use Rattle.image.proofs.Stores.{stored-report}
 use Rattle.image.proofs.put_report.Statement.{statement}
 use Rattle.image.proofs.put_report.Tie as tie
 
-put8-requires : tie.Need-put8-requires
-put8-requires c κs = omega arith
-
-sub-put8 : tie.Need-sub-put8
-sub-put8 c = omega arith
-
-part-put8-start : tie.Need-part-put8-start
-part-put8-start c = omega arith
-
-part-put8-end : tie.Need-part-put8-end
-part-put8-end c = omega arith
-
-put8-requires-2 : tie.Need-put8-requires-2
-put8-requires-2 c κs = omega arith
-
-sub-put8-2 : tie.Need-sub-put8-2
-sub-put8-2 c = omega arith
-
-part-put8-start-2 : tie.Need-part-put8-start-2
-part-put8-start-2 c = omega arith
-
-part-put8-end-2 : tie.Need-part-put8-end-2
-part-put8-end-2 c = omega arith
-
-put8-requires-3 : tie.Need-put8-requires-3
-put8-requires-3 c κs = omega arith
-
-sub-put32 : tie.Need-sub-put32
-sub-put32 c = omega arith
-
-part-put32-start : tie.Need-part-put32-start
-part-put32-start c = omega arith
-
-part-put32-end : tie.Need-part-put32-end
-part-put32-end c = omega arith
-
 put32-requires : tie.Need-put32-requires
-put32-requires c κs = omega arith
-
-sub-put32-2 : tie.Need-sub-put32-2
-sub-put32-2 c = omega arith
-
-part-put32-start-2 : tie.Need-part-put32-start-2
-part-put32-start-2 c = omega arith
-
-part-put32-end-2 : tie.Need-part-put32-end-2
-part-put32-end-2 c = omega arith
-
-put32-requires-2 : tie.Need-put32-requires-2
-put32-requires-2 c κs = omega arith
+put32-requires c κs = search needs
 
 same-length : tie.Need-same-length
-same-length c = omega arith
+same-length c = search needs
 
 returns : tie.Need-returns
-unfolding reportRecord be32 be16 be8
-returns c =
-    let c1 = c .before .before in
-    let c2 = c1 .before .before .before .before in
-    let c3 = c2 .before .before .before .before in
-    let c4 = c3 .before .before .before .before in
-    let c5 = c4 .before .before .before .before in
-    wrote-then (wrote-then (wrote-then (wrote-then (c5 .put8 .ensures) (c4 .put82 .ensures)) (c3 .put83 .ensures)) (c2 .put32 .ensures)) (c1 .put322 .ensures)
+returns c = absurd (omega arith)
+
+put32-requires-2 : tie.Need-put32-requires-2
+put32-requires-2 c κs = search needs
+
+slice-write-out : tie.Need-slice-write-out
+slice-write-out c = omega arith
+
+cast-out : tie.Need-cast-out
+cast-out c = omega arith
+
+slice-write-out-2 : tie.Need-slice-write-out-2
+slice-write-out-2 c = simp length-set (omega arith)
+
+cast-out-2 : tie.Need-cast-out-2
+cast-out-2 c = omega arith
+
+slice-write-out-3 : tie.Need-slice-write-out-3
+slice-write-out-3 c = simp length-set (omega arith)
+
+same-length-2 : tie.Need-same-length-2
+same-length-2 c = simp length-set (omega arith)
+
+returns-2 : tie.Need-returns-2
+returns-2 c =
+    let d = c .before .before in
+    let a = d .before .before .before .before .before .before .before .before .args in
+    stored-report (a .sender) (a .receiver) (a .label) (a .list) (now (a .out)) _ _ (omega arith)
+    (d .before .before .before .before .before .put32 .ensures) (d .put322 .ensures)
 
 pub put-report-spec : {M : Type 1} → statement M
 put-report-spec =
     tie.close
     (tie.spec
-    put8-requires
-    sub-put8
-    part-put8-start
-    part-put8-end
-    put8-requires-2
-    sub-put8-2
-    part-put8-start-2
-    part-put8-end-2
-    put8-requires-3
-    sub-put32
-    part-put32-start
-    part-put32-end
     put32-requires
-    sub-put32-2
-    part-put32-start-2
-    part-put32-end-2
-    put32-requires-2
     same-length
-    returns)
+    returns
+    put32-requires-2
+    slice-write-out
+    cast-out
+    slice-write-out-2
+    cast-out-2
+    slice-write-out-3
+    same-length-2
+    returns-2)
