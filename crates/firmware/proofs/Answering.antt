@@ -1,6 +1,6 @@
 -- What the answer of the C call tells: its remainder by 32 is 0 exactly where the image is written.
 -- Assumes nothing.
-use mathlib.Core.Path.{_≡_, ap, _∙_}
+use mathlib.Core.Path.{_≡_, sym, ap, _∙_}
 use mathlib.Core.Logic.{_⊎_, inl, inr, _≢_}
 use mathlib.Core.List.{List, _++_}
 use Prim.Native.Nat.{ℕ, _+_, _*_, _/_, _%_, _<_, _≤_}
@@ -9,21 +9,17 @@ use lib.ListN.{length, drop}
 use Rattle.ancestors.proofs.Cases.{eq-or-ne, le-or-lt}
 use Rattle.records.specs.Numbers.{Bytes}
 use Rattle.records.specs.Image.{image}
-use Rattle.records.specs.Opening.{openOf, acceptedOpening}
+use Rattle.records.specs.Opening.{acceptedOpening, openOf}
+use Rattle.settling.specs.Calls.{roundsHeard}
 use Rattle.records.specs.Running.{runOf}
 use Rattle.records.proofs.Sizes.{image-most}
 use Rattle.records.proofs.Acceptance.{reopening}
 use Rattle.records.proofs.Places.{run-small}
-use Rattle.settling.proofs.RunCalls.{run-within}
-use Rattle.firmware.specs.Calling.{Called, maxRun, refusedAnswer, callOf}
+use Rattle.records.proofs.Begun.{run-image}
+use Rattle.settling.proofs.RunCalls.{run-within, run-settles}
+use Rattle.firmware.specs.Calling.{Called, maxRun, refusedAnswer, callOf, CallIs, refused, written}
+use Rattle.firmware.specs.Demand.{OpensPromised, CallSettles}
 use Rattle.firmware.proofs.Calling.{call-long, call-refused, call-short, call-written}
-
--- a call is refused, with a number from 1 to 7 and a place within the run, and nothing is written; or the image of the run's network is written
-pub data CallIs (run out : List ℕ) (o : Called) : Type 0 where
-  refused : (number place : ℕ) → 0 < number → number ≤ 7 → place ≤ length run → o .answer % 32 ≡ number → o .answer / 32 ≡ place → o .output ≡ out
-      → CallIs run out o
-  written : o .answer % 32 ≡ 0 → o .answer / 32 ≡ length (image (runOf run .net))
-      → o .output ≡ image (runOf run .net) ++ drop (length (image (runOf run .net))) out → CallIs run out o
 
 -- number and place of a refusal
 number-part : (number place : ℕ) → number < 32 → refusedAnswer number place % 32 ≡ number
@@ -56,7 +52,7 @@ module _ (run out : List ℕ) where
       by-room h z (inl fits) =
           let e = call-written run out h z fits in
           let k = length (image (runOf run .net)) in
-          written (ap (λ (o : Called). o .answer % 32) e ∙ length-rest k) (ap (λ (o : Called). o .answer / 32) e ∙ length-part k)
+          written z (ap (λ (o : Called). o .answer % 32) e ∙ length-rest k) (ap (λ (o : Called). o .answer / 32) e ∙ length-part k)
           (ap (λ (o : Called). o .output) e)
       by-room h z (inr short) = told 6 0 (omega arith) (omega arith) (omega arith) (call-short run out h z short)
 
@@ -81,3 +77,17 @@ module _ (run out : List ℕ) where
     call-reopens h z fits =
         ap (λ (o : Called). openOf (o .output)) (call-written run out h z fits) ∙
         reopening (runOf run .net) (run-within run bytes) (drop (length (image (runOf run .net))) out)
+
+-- demand 3 of what an accepted call writes
+pub call-settles : CallSettles
+call-settles run out by z before stretch W cut s = go (call-is run out)
+  where
+    go : CallIs run out (callOf run out) → OpensPromised (callOf run out) (openOf run .net .nodes) W (roundsHeard (openOf run .net) before stretch)
+    go (refused number place a b p q r w) = absurd (omega (arith, q))
+    go (written good q r w) =
+        let k = length (image (runOf run .net)) in
+        record {
+          net = runOf run .net;
+          opens = ap openOf w ∙ reopening (runOf run .net) (run-within run by) (drop k out) ∙ ap (acceptedOpening (runOf run .net)) (sym r);
+          promised = run-settles run by (run-image run good) before stretch W cut s;
+        }

@@ -2,12 +2,12 @@
 -- Assumes nothing.
 use mathlib.Core.Path.{_≡_}
 use mathlib.Core.Bool.{cond}
-use mathlib.Core.List.{List}
-use Prim.Native.Nat.{ℕ, _+_, _*_}
+use mathlib.Core.List.{List, _++_}
+use Prim.Native.Nat.{ℕ, _+_, _*_, _/_, _%_, _<_, _≤_}
 use lib.Dec.{eqb, ltb}
-use lib.ListN.{length}
+use lib.ListN.{length, drop}
 use Rattle.network.specs.Writing.{Writing}
-use Rattle.records.specs.Image.{imageOf}
+use Rattle.records.specs.Image.{image, imageOf}
 use Rattle.records.specs.Running.{Running, runOf}
 
 -- the bytes of the longest run
@@ -43,3 +43,13 @@ callOf run out = cond (ltb maxRun (length run)) (refusedCall 3 0 out) (runCall (
 pub record Answers (o : Called) (r : ℕ) (exit : List ℕ) : Type 0 where
   pub answer : r ≡ o .answer
   pub output : exit ≡ o .output
+
+-- ---- what an answer tells
+
+-- the call is refused, with a number from 1 to 7 and a place within the run, and nothing is written; or the run was accepted to its end and
+-- the image of its network is written
+pub data CallIs (run out : List ℕ) (o : Called) : Type 0 where
+  refused : (number place : ℕ) → 0 < number → number ≤ 7 → place ≤ length run → o .answer % 32 ≡ number → o .answer / 32 ≡ place → o .output ≡ out
+      → CallIs run out o
+  written : runOf run .number ≡ 0 → o .answer % 32 ≡ 0 → o .answer / 32 ≡ length (image (runOf run .net))
+      → o .output ≡ image (runOf run .net) ++ drop (length (image (runOf run .net))) out → CallIs run out o

@@ -1,4 +1,5 @@
--- How a network lies in 3,200 words, and the network that any list of words gives: the one file that knows.
+-- How a network lies in 3,200 words, and the network that any list of words gives. The constants in `memory`'s code say the same places, and
+-- `routing` uses both; every other definition and crate goes by `view`.
 -- Word 0 is n and word 1 the origin. Rows lie by node, costs and held reports by receiver times 32 plus sender. A list of 0 is no route, or an
 -- empty report. The origin's row is not read from memory, an n above 32 counts as 32, and what lies at nodes not below n plays no part.
 -- Assumes nothing.

@@ -1,7 +1,8 @@
 // A network in words that the caller lends: fresh networks, changes and grades, and the reading and placing of arcs, rows and reports.
 //
-// Contracts go through `view`, the network that the words give (specs/Layout.antt), and hold for any words. A refused call leaves every
-// word as it stood. No public function has a precondition.
+// Contracts go through `view`, the network that the words give (specs/Layout.antt), and hold for any words. A refused call leaves every word as it
+// stood, but for `make_fresh`: refused or not, it makes the words give a fresh network, and says nothing of words that play no part in it. Of
+// the public functions only `pair_cost` and `pair_held` read such words. No public function has a precondition.
 ghost use mathlib.Core.Path.{_≡_};
 ghost use mathlib.Core.Bool.{_||_, cond};
 ghost use Prim.Native.Nat.{_<_, _≤_};
@@ -237,7 +238,7 @@ fn cost_word(net: &[u32], sender: u32, receiver: u32) -> u32
 }
 
 // What the words hold of a pair of 32 nodes, whatever n is: the next two calls. For two nodes below n they answer what `arc_cost` and `held` do; n is
-// not read, so that a caller that keeps to nodes below n does not have it read for each pair.
+// not read, so that a caller that keeps to nodes below n does not have it read for each pair. For other nodes they answer what no other call decides.
 
 // The cost of the pair.
 pub fn pair_cost(net: &Network, sender: u32, receiver: u32) -> CostRead

@@ -1,7 +1,7 @@
 // Opening an image: its records are read one after another and placed on a fresh network.
 //
-// Contracts go through `memory`'s `view`. No public function has a precondition; the private ones ask for small nodes
-// and ranks and for a start within the input.
+// Contracts go through `memory`'s `view`. Refused or not, `open_into` says which network the lent words give, and nothing of words that play no part in
+// it. No public function has a precondition; the private ones ask for small nodes and ranks and for a start within the input.
 ghost use mathlib.Core.Path.{_≡_};
 ghost use Prim.Native.Nat.{_<_, _≤_};
 ghost use lib.ListN.{length, drop};

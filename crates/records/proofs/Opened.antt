@@ -1,6 +1,6 @@
 -- What opening answers: a refusal with the fresh network of one node, or a network within limits; and the bytes used.
 -- Assumes nothing.
-use mathlib.Core.Path.{_≡_, refl, ap}
+use mathlib.Core.Path.{_≡_, refl, sym, ap, _∙_}
 use mathlib.Core.Bool.{Bool, true, false, cond}
 use mathlib.Core.List.{List}
 use mathlib.Core.Logic.{_⊎_, inl, inr, _≢_}
@@ -53,6 +53,14 @@ open-is bs = go (start-shown bs)
             OpenIs (cond (eqb (freshNumber n o) 0) (readRecords (length bs) (freshNet n o) 0 3 (drop 3 bs)) (refusedOpening (freshNumber n o) 0))
         by-number (inl z) = rw (eq-eqb (freshNumber n o) 0 z) (records-is (length bs) (freshNet n o) 0 3 (drop 3 bs))
         by-number (inr z) = rw (ne-eqb (freshNumber n o) 0 z) (refused (freshNumber n o) 0 z refl)
+
+-- with number 0, opening accepted
+pub open-accepted : (bs : List ℕ) → openOf bs .number ≡ 0 → openOf bs ≡ acceptedOpening (openOf bs .net) (openOf bs .used)
+open-accepted bs z = go (open-is bs)
+  where
+    go : OpenIs (openOf bs) → openOf bs ≡ acceptedOpening (openOf bs .net) (openOf bs .used)
+    go (refused e at n p) = absurd (n (sym (ap (λ (o : Opening). o .number) p) ∙ z))
+    go (accepted x used p) = p ∙ sym (λ i. acceptedOpening (p i .net) (p i .used))
 
 -- the network that opening answers is within limits, refused or not
 pub open-within : (bs : List ℕ) → Bytes bs → Within (openOf bs .net)

@@ -26,7 +26,7 @@ never-allowed inImage k h = rw (ne-eqb k 0 (λ e. omega arith), lt-ltb 1 k (omeg
 never-allowed asEvent k h = rw (ne-eqb k 2 (λ e. omega arith), lt-ltb 4 k (omega arith), le-ltb k 8 h)
 
 -- a kind that is allowed is below 8
-kind-small : (z : Section) (k : ℕ) → allowed z k ≡ true → k < 8
+pub kind-small : (z : Section) (k : ℕ) → allowed z k ≡ true → k < 8
 kind-small z k e = go (le-or-lt 8 k)
   where
     go : (8 ≤ k) ⊎ (k < 8) → k < 8
@@ -34,7 +34,7 @@ kind-small z k e = go (le-or-lt 8 k)
     go (inr h) = h
 
 -- what holds of each kind from 0 to 7 holds of every kind below 8
-by-kind : (Q : ℕ → Type 0) → Q 0 → Q 1 → Q 2 → Q 3 → Q 4 → Q 5 → Q 6 → Q 7 → (k : ℕ) → k < 8 → Q k
+pub by-kind : (Q : ℕ → Type 0) → Q 0 → Q 1 → Q 2 → Q 3 → Q 4 → Q 5 → Q 6 → Q 7 → (k : ℕ) → k < 8 → Q k
 by-kind Q a b c d e f g h zero l = a
 by-kind Q a b c d e f g h (suc zero) l = b
 by-kind Q a b c d e f g h (suc (suc zero)) l = c

@@ -2,8 +2,8 @@
 -- Assumes nothing.
 use mathlib.Core.Path.{_≡_, refl, sym, ap, _∙_}
 use mathlib.Core.Bool.{Bool, true, false, _&&_}
-use mathlib.Core.List.{List, [], _∷_}
-use mathlib.Core.Logic.{_⊎_, inl, inr}
+use mathlib.Core.List.{List, [], _∷_, _++_}
+use mathlib.Core.Logic.{_⊎_, inl, inr, _≢_}
 use Prim.Native.Nat.{ℕ}
 use borrow.Author.Tests.{eqb-true, eqb-false, eq-eqb}
 use Rattle.ancestors.proofs.Cases.{bool-cases}
@@ -60,6 +60,15 @@ called-refused x c e =
     ap (λ (o : Outcome). o .net) (called-outcome x c) ∙
     refused-net (number x c) (next x c) x (λ z. eqb-false (called x c .number) 0 e (called-number x c ∙ z))
 
+-- an accepted call's number is 0, and no other's
+pub accepted-zero : (x : Net) (c : Call) → accepted x c ≡ true → called x c .number ≡ 0
+unfolding accepted
+accepted-zero x c e = eqb-true (called x c .number) 0 e
+
+pub accepted-not : (x : Net) (c : Call) → accepted x c ≡ false → called x c .number ≢ 0
+unfolding accepted
+accepted-not x c e = eqb-false (called x c .number) 0 e
+
 -- an accepted call gives the next one
 called-accepted : (x : Net) (c : Call) → accepted x c ≡ true → called x c .net ≡ next x c
 unfolding accepted
@@ -68,7 +77,7 @@ called-accepted x c e =
     accepted-net (number x c) (next x c) x (sym (called-number x c) ∙ eqb-true (called x c .number) 0 e)
 
 -- a round with every arc heard is always accepted
-full-accepted : (x : Net) → accepted x fullRound ≡ true
+pub full-accepted : (x : Net) → accepted x fullRound ≡ true
 unfolding accepted number
 full-accepted x = eq-eqb (called x fullRound .number) 0 (called-number x fullRound)
 
@@ -106,7 +115,13 @@ unfolding after
 after-nodes x [] = refl
 after-nodes x (c ∷ cs) = after-nodes (called x c .net) cs ∙ called-nodes x c
 
--- and keeps a network within limits
+-- two lists of calls, one after the other
+pub after-append : (x : Net) (cs ds : List Call) → after x (cs ++ ds) ≡ after (after x cs) ds
+unfolding after
+after-append x [] ds = refl
+after-append x (c ∷ cs) ds = after-append (called x c .net) cs ds
+
+-- a list of calls keeps a network within limits
 pub after-within : (x : Net) → Within x → (cs : List Call) → Within (after x cs)
 unfolding after
 after-within x w [] = w

@@ -11,9 +11,10 @@ pub mod Rounds
 pub mod CallLaws
 pub mod Stretches
 pub mod Theorem
+pub mod RunCalls
 pub mod Computed
 pub mod Tight
 pub mod Example
 pub mod FalseRelays
 pub mod Field
-pub mod RunCalls
+pub mod FieldRun

@@ -1,65 +1,60 @@
--- A run is a list of calls on the network that its image opens to: its network is the one after them, and its rounds are theirs.
+-- A run is its events as calls on the network that its image opens to; so demand 3 holds of what a run answers.
 -- Assumes nothing.
-use mathlib.Core.Path.{_≡_, refl, sym, ap, _∙_}
+use mathlib.Core.Path.{_≡_, refl, sym, ap, subst, _∙_}
 use mathlib.Core.Bool.{Bool, true, false, cond}
-use mathlib.Core.List.{List, [], _∷_}
+use mathlib.Core.List.{List, [], _∷_, _++_}
 use mathlib.Core.Logic.{_⊎_, inl, inr, _≢_}
-use Prim.Native.Nat.{ℕ, zero, suc, _+_}
+use Prim.Native.Nat.{ℕ, zero, suc, _+_, _<_}
 use native.Mathlib.Omega.{arith}
 use native.Mathlib.Nat.{zero-add}
+use lib.Dec.{ltb}
 use lib.ListN.{length, drop}
 use borrow.Author.Tests.{eq-eqb, ne-eqb}
-use Rattle.ancestors.proofs.Cases.{eq-or-ne}
+use Rattle.ancestors.proofs.Cases.{bool-cases, eq-or-ne, never, cond-by}
+use Rattle.network.specs.Faults.{gradeFault}
 use Rattle.network.specs.Network.{Net, Outcome, outcome, Within}
-use Rattle.network.proofs.Effects.{outcome-same}
+use Rattle.network.specs.Change.{gradeCost}
+use Rattle.network.proofs.Effects.{outcome-number, outcome-same}
 use Rattle.network.specs.Round.{Marks, marked}
-use Rattle.records.specs.Numbers.{Bytes, words}
-use Rattle.records.specs.Records.{asEvent, bodyOf, recordOf}
+use Rattle.records.specs.Numbers.{Bytes}
+use Rattle.records.specs.Records.{bodyLength, arcChange, gradeChange, eventOf, asEvent, allowed, bodyOf, refusedRecord, bodied, recordOf}
 use Rattle.records.specs.Opening.{openOf}
-use Rattle.records.specs.Running.{eventDone, roundsIn, Running, afterEvent, readEvents, runFrom, runOf}
-use Rattle.records.specs.declared.ArcChange.the-variants.{Set, Removed}
+use Rattle.records.specs.Running.{eventDone, roundsIn, Running, afterEvent, readEvents, runOf}
 use Rattle.records.specs.declared.Event.{Event}
-use Rattle.records.specs.declared.Event.the-variants as E
+use Rattle.records.specs.declared.Event.the-variants.{Change, Refusal}
 use Rattle.records.specs.declared.Record.{Record}
+use Rattle.records.proofs.Reading.{wholeRecord, kind-small, by-kind}
+use Rattle.records.proofs.Grading.{change-record, grade-record}
+use Rattle.records.proofs.Begun.{run-refused, run-opened}
 use Rattle.records.proofs.Opened.{open-within}
-use Rattle.settling.specs.Calls.{Call, change, grade, round, fullRound, route, writeImage, called, accepted, after, marksThen, rounds}
-use Rattle.settling.proofs.CallLaws.{called-refused, after-within}
-
--- a running answer is that of a list of calls on x, after n rounds
-pub record RanAs (x : Net) (n : ℕ) (r : Running) : Type 0 where
-  pub calls : List Call
-  pub net : r .net ≡ after x calls
-  pub counted : r .rounds ≡ n + length (rounds x calls)
+use Rattle.settling.specs.Calls.{Call, change, grade, round, fullRound, route, writeImage, called, accepted, after, marksThen, rounds, Supposed, atEnd, roundsHeard, Promises}
+use Rattle.settling.specs.RunCalls.{eventCall, Events, ended, malformed, event, eventsIn, runEvents, callsOf, Stop, stopOf, runCalls, RunIsCalls, RunSettles}
+use Rattle.settling.proofs.CallLaws.{accepted-zero, accepted-not, full-accepted, after-within, after-append}
+use Rattle.settling.proofs.Theorem.{open-answers, demand3}
 
 -- ---- one event
 
--- an event is one call, or refuses
-data EventIs (x : Net) (b : List ℕ) (e : Event) : Type 0 where
-  a-call : (c : Call) → eventDone x b e ≡ called x c → (called x c .number ≡ 0 → length (marksThen x c []) ≡ roundsIn e) → EventIs x b e
-  a-refusal : (k : ℕ) → eventDone x b e ≡ outcome k x x → roundsIn e ≡ 0 → EventIs x b e
+-- an event does what its call does, and an accepted one counts the rounds of that call
+record SameDone (x : Net) (b : List ℕ) (e : Event) (c : Call) : Type 0 where
+  done : eventDone x b e ≡ called x c
+  counted : called x c .number ≡ 0 → length (marksThen x c []) ≡ roundsIn e
 
-event-is : (x : Net) (b : List ℕ) (e : Event) → EventIs x b e
-unfolding eventDone called roundsIn marksThen accepted
-event-is x b (E.Change (Set s r c)) = a-call (change s r c) refl (λ _. refl)
-event-is x b (E.Change (Removed s r)) = a-call (change s r 0) refl (λ _. refl)
-event-is x b E.Round = a-call (round (words 32 b)) refl (λ z. rw (eq-eqb (called x (round (words 32 b)) .number) 0 z))
-event-is x b E.FullRound = a-call fullRound refl (λ _. refl)
-event-is x b (E.Refusal k p) = a-refusal k refl refl
-event-is x b E.End = a-refusal 2 refl refl
-event-is x b (E.Header n o) = a-refusal 2 refl refl
-event-is x b (E.Row y d p l) = a-refusal 2 refl refl
-event-is x b (E.Report s r d l) = a-refusal 2 refl refl
+-- a grade's record is no round
+no-round : (at s r g : ℕ) → 0 ≡ roundsIn (gradeChange at s r g)
+unfolding gradeChange roundsIn
+no-round at s r g =
+    cond-by (λ (e : Event). 0 ≡ roundsIn e) (gradeFault g) (Refusal 3 at) (Change (arcChange s r (gradeCost g))) (λ _. refl) (λ _. refl)
 
--- a refused event leaves x
-event-refused : (x : Net) (b : List ℕ) (e : Event) → eventDone x b e .number ≢ 0 → eventDone x b e .net ≡ x
-unfolding accepted
-event-refused x b e n = go (event-is x b e)
+same-done : (x : Net) (at : ℕ) (b : List ℕ) (k : ℕ) → k < 8 → allowed asEvent k ≡ true → SameDone x b (eventOf at k b) (eventCall k b)
+unfolding allowed eventOf eventCall eventDone called roundsIn marksThen accepted
+same-done x at b =
+    by-kind (λ k. allowed asEvent k ≡ true → SameDone x b (eventOf at k b) (eventCall k b)) clash clash
+    (λ _. record { done = change-record x b _ _ _; counted = λ _. refl }) clash clash
+    (λ _. record { done = refl; counted = λ z. rw (eq-eqb _ 0 z) }) (λ _. record { done = refl; counted = λ _. refl })
+    (λ _. record { done = grade-record x b at _ _ _; counted = λ _. no-round at _ _ _ })
   where
-    go : EventIs x b e → eventDone x b e .net ≡ x
-    go (a-call c p q) =
-        ap (λ (o : Outcome). o .net) p ∙
-        called-refused x c (ne-eqb (called x c .number) 0 (λ z. n (ap (λ (o : Outcome). o .number) p ∙ z)))
-    go (a-refusal k p q) = ap (λ (o : Outcome). o .net) p ∙ outcome-same k x
+    clash : {A : Type 0} → false ≡ true → A
+    clash e = never false e refl
 
 -- the marks of a call are put before the others
 marks-long : (x : Net) (c : Call) (ms : List Marks) → length (marksThen x c ms) ≡ length (marksThen x c []) + length ms
@@ -75,63 +70,149 @@ marks-long x fullRound ms = omega arith
 marks-long x (route y out) ms = sym (zero-add (length ms))
 marks-long x (writeImage out) ms = sym (zero-add (length ms))
 
--- an accepted event, then the others
-event-then : (x : Net) (n : ℕ) (b : List ℕ) (e : Event) (r : Running) → eventDone x b e .number ≡ 0 → RanAs (eventDone x b e .net) (n + roundsIn e) r → RanAs x n r
-unfolding after rounds
-event-then x n b e r z ih = go (event-is x b e)
-  where
-    go : EventIs x b e → RanAs x n r
-    go (a-call c p q) =
-        let net : eventDone x b e .net ≡ called x c .net = ap (λ (o : Outcome). o .net) p in
-        let one = q (sym (ap (λ (o : Outcome). o .number) p) ∙ z) in
-        let more = marks-long x c (rounds (called x c .net) (ih .calls)) in
-        record {
-          calls = c ∷ ih .calls;
-          net = ih .net ∙ ap (λ (y : Net). after y (ih .calls)) net;
-          counted = omega (arith, ih .counted, ap (λ (y : Net). length (rounds y (ih .calls))) net, one, more);
-        }
-    go (a-refusal k p q) =
-        let net : eventDone x b e .net ≡ x = ap (λ (o : Outcome). o .net) p ∙ outcome-same k x in
-        record {
-          calls = ih .calls;
-          net = ih .net ∙ ap (λ (y : Net). after y (ih .calls)) net;
-          counted = omega (arith, ih .counted, ap (λ (y : Net). length (rounds y (ih .calls))) net, q);
-        }
+-- a refused call has none
+refused-marks : (x : Net) (c : Call) → accepted x c ≡ false → marksThen x c [] ≡ []
+unfolding marksThen
+refused-marks x (change s r c) e = refl
+refused-marks x (grade s r g) e = refl
+refused-marks x (round ws) e = rw e
+refused-marks x fullRound e = never (accepted x fullRound) (full-accepted x) e
+refused-marks x (route y out) e = refl
+refused-marks x (writeImage out) e = refl
 
 -- ---- the events of a run
 
-no-calls : (x : Net) (n : ℕ) (r : Running) → r .net ≡ x → r .rounds ≡ n → RanAs x n r
+-- the answer r, on x and after n rounds, is that of the events es
+record AnswersBy (x : Net) (n : ℕ) (es : Events) (r : Running) : Type 0 where
+  net : r .net ≡ after x (callsOf x es)
+  counted : r .rounds ≡ n + length (rounds x (callsOf x es))
+  number : r .number ≡ stopOf x es .number
+  place : r .place ≡ stopOf x es .place
+
+by-none : (x : Net) (n : ℕ) → AnswersBy x n ended (record { number = 0; place = 0; rounds = n; net = x })
+unfolding callsOf stopOf after rounds
+by-none x n = record { net = refl; counted = omega arith; number = refl; place = refl }
+
+-- after an event
+module _ (go : Net → Running) (at n : ℕ) (o : Outcome) where
+  after-stop : o .number ≢ 0 → afterEvent go at n o ≡ record { number = o .number; place = at; rounds = n; net = o .net }
+  unfolding afterEvent
+  after-stop h = rw (ne-eqb (o .number) 0 h)
+
+  after-more : o .number ≡ 0 → afterEvent go at n o ≡ go (o .net)
+  unfolding afterEvent
+  after-more h = rw (eq-eqb (o .number) 0 h)
+
+-- a record that is no event
+by-malformed : (go : Net → Running) (x : Net) (b : List ℕ) (n at e : ℕ) → e ≢ 0 →
+    AnswersBy x n (malformed e at) (afterEvent go at n (eventDone x b (Refusal e at)))
+unfolding callsOf stopOf after rounds eventDone
+by-malformed go x b n at e h =
+    let k = outcome-number e x x in
+    rw (after-stop go at n (outcome e x x) (λ z. h (sym k ∙ z)))
+    (record { net = outcome-same e x; counted = omega arith; number = k; place = refl })
+
+-- the calls of an event and those after it, and where they stop
+module _ (x : Net) (at : ℕ) (c : Call) (es : Events) where
+  calls-more : accepted x c ≡ true → callsOf x (event at c es) ≡ c ∷ callsOf (called x c .net) es
+  unfolding callsOf
+  calls-more t = rw t
+
+  calls-stop : accepted x c ≡ false → callsOf x (event at c es) ≡ c ∷ []
+  unfolding callsOf
+  calls-stop t = rw t
+
+  stop-later : accepted x c ≡ true → stopOf x (event at c es) ≡ stopOf (called x c .net) es
+  unfolding stopOf
+  stop-later t = rw t
+
+  stop-here : accepted x c ≡ false → stopOf x (event at c es) ≡ record { number = called x c .number; place = at }
+  unfolding stopOf
+  stop-here t = rw t
+
+-- a call, then the events after it
+by-call : (go : Net → Running) (x : Net) (b : List ℕ) (n at : ℕ) (e : Event) (c : Call) (es : Events) → SameDone x b e c →
+    ((z : Net) → AnswersBy z (n + roundsIn e) es (go z)) → AnswersBy x n (event at c es) (afterEvent go at n (eventDone x b e))
 unfolding after rounds
-no-calls x n r p q = record { calls = []; net = p; counted = omega (arith, q) }
-
-events-as : (k : ℕ) (x : Net) (n at : ℕ) (bs : List ℕ) → RanAs x n (readEvents k x n at bs)
-unfolding readEvents afterEvent
-events-as zero x n at bs = no-calls x n _ refl refl
-events-as (suc k) x n at [] = no-calls x n _ refl refl
-events-as (suc k) x n at (kind ∷ b) = go (eq-or-ne (o .number) 0) (events-as k)
+by-call go x b n at e c es same again =
+    subst (λ (o : Outcome). AnswersBy x n (event at c es) (afterEvent go at n o)) (sym (same .done)) (cases (bool-cases (accepted x c)))
   where
-    r : Record
-    r = recordOf asEvent at (kind ∷ b)
+    cases : (accepted x c ≡ true) ⊎ (accepted x c ≡ false) → AnswersBy x n (event at c es) (afterEvent go at n (called x c))
+    cases (inl t) =
+        let z : called x c .number ≡ 0 = accepted-zero x c t in
+        let ih = again (called x c .net) in
+        let calls = sym (calls-more x at c es t) in
+        let stop = sym (stop-later x at c es t) in
+        let more = marks-long x c (rounds (called x c .net) (callsOf (called x c .net) es)) in
+        rw (after-more go at n (called x c) z)
+        (record {
+          net = ih .net ∙ ap (after x) calls;
+          counted = omega (arith, ih .counted, same .counted z, more, ap (λ (cs : List Call). length (rounds x cs)) calls);
+          number = ih .number ∙ ap (λ (p : Stop). p .number) stop;
+          place = ih .place ∙ ap (λ (p : Stop). p .place) stop;
+        })
+    cases (inr t) =
+        let calls = sym (calls-stop x at c es t) in
+        let stop = sym (stop-here x at c es t) in
+        rw (after-stop go at n (called x c) (accepted-not x c t))
+        (record {
+          net = ap (after x) calls;
+          counted = omega (arith, ap length (refused-marks x c t), ap (λ (cs : List Call). length (rounds x cs)) calls);
+          number = ap (λ (p : Stop). p .number) stop;
+          place = ap (λ (p : Stop). p .place) stop;
+        })
 
-    o : Outcome
-    o = eventDone x (bodyOf kind b) (r .event)
-
-    go : (o .number ≡ 0) ⊎ (o .number ≢ 0) → ((x : Net) (n at : ℕ) (bs : List ℕ) → RanAs x n (readEvents k x n at bs)) →
-        RanAs x n (readEvents (suc k) x n at (kind ∷ b))
-    go (inl z) again =
-        rw (eq-eqb (o .number) 0 z)
-        (event-then x n (bodyOf kind b) (r .event) _ z (again (o .net) (n + roundsIn (r .event)) (at + r .length) (drop (r .length) (kind ∷ b))))
-    go (inr z) again = rw (ne-eqb (o .number) 0 z) (no-calls x n _ (event-refused x (bodyOf kind b) (r .event) z) refl)
-
--- a run is a list of calls on the network that opening answers
-pub run-calls : (bs : List ℕ) → RanAs (openOf bs .net) 0 (runOf bs)
-unfolding runOf runFrom
-run-calls bs = go (eq-or-ne (openOf bs .number) 0)
+events-as : (k : ℕ) (x : Net) (n at : ℕ) (bs : List ℕ) → AnswersBy x n (eventsIn k at bs) (readEvents k x n at bs)
+unfolding readEvents eventsIn recordOf bodied
+events-as zero x n at bs = by-none x n
+events-as (suc k) x n at [] = by-none x n
+events-as (suc k) x n at (kind ∷ b) = go (allowed asEvent kind) (ltb (length b) (bodyLength kind)) refl (events-as k)
   where
-    go : (openOf bs .number ≡ 0) ⊎ (openOf bs .number ≢ 0) → RanAs (openOf bs .net) 0 (runOf bs)
-    go (inl z) = rw (eq-eqb (openOf bs .number) 0 z) (events-as (length bs) (openOf bs .net) 0 (openOf bs .used) (drop (openOf bs .used) bs))
-    go (inr z) = rw (ne-eqb (openOf bs .number) 0 z) (no-calls (openOf bs .net) 0 _ refl refl)
+    step : Record → Running
+    step r =
+        afterEvent (λ z. readEvents k z (n + roundsIn (r .event)) (at + r .length) (drop (r .length) (kind ∷ b))) at n
+        (eventDone x (bodyOf kind b) (r .event))
 
--- the network that a run answers is within limits
+    rest : Events
+    rest = eventsIn k (at + suc (bodyLength kind)) (drop (suc (bodyLength kind)) (kind ∷ b))
+
+    go : (t u : Bool) → allowed asEvent kind ≡ t →
+        ((x : Net) (n at : ℕ) (bs : List ℕ) → AnswersBy x n (eventsIn k at bs) (readEvents k x n at bs)) →
+        AnswersBy x n (cond t (cond u (malformed 1 at) (event at (eventCall kind (bodyOf kind b)) rest)) (malformed 2 at))
+        (step (cond t (cond u (refusedRecord 1 at) (wholeRecord at kind b)) (refusedRecord 2 at)))
+    go false u p again = by-malformed _ x (bodyOf kind b) n at 2 (λ z. omega arith)
+    go true true p again = by-malformed _ x (bodyOf kind b) n at 1 (λ z. omega arith)
+    go true false p again =
+        by-call _ x (bodyOf kind b) n at (eventOf at kind (bodyOf kind b)) (eventCall kind (bodyOf kind b)) rest
+        (same-done x at (bodyOf kind b) kind (kind-small asEvent kind p) p) (λ z. again z _ _ _)
+
+-- ---- a run
+
+pub run-calls : RunIsCalls
+unfolding runEvents
+run-calls bs e =
+    let r = run-opened bs e in
+    let by = events-as (length bs) (openOf bs .net) 0 (openOf bs .used) (drop (openOf bs .used) bs) in
+    record {
+      net-is = ap (λ (o : Running). o .net) r ∙ by .net;
+      rounds-are = omega (arith, ap (λ (o : Running). o .rounds) r, by .counted);
+      number-is = ap (λ (o : Running). o .number) r ∙ by .number;
+      place-is = ap (λ (o : Running). o .place) r ∙ by .place;
+    }
+
+-- the network that a run answers is within limits, refused or not
 pub run-within : (bs : List ℕ) → Bytes bs → Within (runOf bs .net)
-run-within bs by = let r = run-calls bs in rw (r .net) (after-within (openOf bs .net) (open-within bs by) (r .calls))
+run-within bs by = go (eq-or-ne (openOf bs .number) 0)
+  where
+    go : (openOf bs .number ≡ 0) ⊎ (openOf bs .number ≢ 0) → Within (runOf bs .net)
+    go (inl e) = rw (run-calls bs e .net-is) (after-within (openOf bs .net) (open-within bs by) (runCalls bs))
+    go (inr n) = rw (run-refused bs n) (open-within bs by)
+
+-- demand 3 of a run
+pub run-settles : RunSettles
+run-settles bs by e before stretch W cut s =
+    subst (Promises (openOf bs .net .nodes) W (roundsHeard (openOf bs .net) before stretch)) end
+    (demand3 (openOf bs .net) (open-answers bs by e) before stretch W s)
+  where
+    end : atEnd (openOf bs .net) before stretch ≡ runOf bs .net
+    end = sym (after-append (openOf bs .net) before stretch) ∙ ap (after (openOf bs .net)) (sym cut) ∙ sym (run-calls bs e .net-is)

@@ -1,6 +1,6 @@
 -- Demand 3 entire, and the sharper bound.
 -- Assumes nothing.
-use mathlib.Core.Path.{sym, subst}
+use mathlib.Core.Path.{_≡_, sym, subst}
 use mathlib.Core.List.{List}
 use Prim.Native.Nat.{ℕ, _*_, _-_, _≤_}
 use native.Mathlib.Omega.{arith}
@@ -8,8 +8,12 @@ use native.Mathlib.Nat.{mul-le-mul-right}
 use lib.ListN.{length, getD}
 use Rattle.network.specs.Network.{Net, Within}
 use Rattle.network.proofs.Keeping.{fresh-within}
+use Rattle.records.specs.Numbers.{Bytes}
+use Rattle.records.specs.Opening.{openOf}
 use Rattle.records.proofs.Acceptance.{acceptance}
-use Rattle.settling.specs.Calls.{Call, after, Stretch, rounds, unmarked, HeardWithin, AllSettled, AllReal, roundsHeard, Settling, SettlingSooner}
+use Rattle.records.proofs.Opened.{open-accepted}
+use Rattle.settling.specs.Calls.{Call, after, Stretch, rounds, unmarked, HeardWithin, AllSettled, AllReal, roundsHeard, Settling}
+use Rattle.settling.specs.Bounds.{SettlingSooner}
 use Rattle.settling.specs.Demand.{Answered, by-fresh, by-open, Demand3}
 use Rattle.settling.proofs.Rounds.{rounds-real, rounds-settled}
 use Rattle.settling.proofs.CallLaws.{after-nodes, after-within}
@@ -55,6 +59,10 @@ settling x within before stretch W s =
 answered-within : (x : Net) → Answered x → Within x
 answered-within x (by-fresh n o ok e) = subst Within e (fresh-within n o)
 answered-within x (by-open bs used bytes e) = acceptance bs bytes x used .0 e .within
+
+-- an opening with number 0 answers its network
+pub open-answers : (bs : List ℕ) → Bytes bs → openOf bs .number ≡ 0 → Answered (openOf bs .net)
+open-answers bs bytes e = by-open bs (openOf bs .used) bytes (open-accepted bs e)
 
 -- demand 3
 pub demand3 : Demand3

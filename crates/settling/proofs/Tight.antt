@@ -17,7 +17,8 @@ use Rattle.network.specs.Change.{changed, changeNumber, changeOf}
 use Rattle.network.proofs.Limits.{within-size, within-arc}
 use Rattle.network.proofs.Keeping.{fresh-within, change-within, place-report-within}
 use Rattle.settling.specs.Settled.{Real, relay-label}
-use Rattle.settling.specs.Calls.{Call, round, called, accepted, after, marksThen, rounds, AllReal, Supposed, atEnd, roundsHeard}
+use Rattle.settling.specs.Calls.{Call, round, called, accepted, after, marksThen, rounds, AllReal, atEnd, roundsHeard}
+use Rattle.settling.specs.Bounds.{TooFew, NoSooner}
 use Rattle.settling.proofs.Routes.{Ends, route-cost, route-short}
 use Rattle.settling.proofs.CallLaws.{after-within}
 use Rattle.settling.proofs.Computed.{still, unheard, missed, supposed-by}
@@ -70,13 +71,6 @@ facts =
       row-two = refl;
     }
 
--- demand 3's premises hold of x and its calls, with one round less than (n - 1) W, and not all rows are real
-pub record TooFew (x : Net) (before stretch : List Call) (W : ℕ) : Type 0 where
-  pub within : Within x
-  pub supposed : Supposed x before stretch W
-  pub count : roundsHeard x before stretch ≡ (x .nodes - 1) * W - 1
-  pub unreal : AllReal (atEnd x before stretch) → ⊥
-
 unreal-end : AllReal (atEnd field [] stretch) → ⊥
 unfolding after
 unreal-end all =
@@ -107,7 +101,5 @@ tight =
       unreal = unreal-end;
     }
 
--- so the promise does not hold from (n - 1) W - 1 rounds on
-pub no-sooner : ((x : Net) → Within x → (before stretch : List Call) (W : ℕ) → Supposed x before stretch W →
-    (x .nodes - 1) * W - 1 ≤ roundsHeard x before stretch → AllReal (atEnd x before stretch)) → ⊥
+pub no-sooner : NoSooner
 no-sooner sooner = tight .unreal (sooner field (tight .within) [] stretch 2 (tight .supposed) (omega (arith, tight .count)))

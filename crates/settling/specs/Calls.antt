@@ -103,18 +103,16 @@ atEnd x before stretch = after (after x before) stretch
 abbrev pub roundsHeard : Net → List Call → List Call → ℕ
 roundsHeard x before stretch = length (rounds (after x before) stretch)
 
--- demand 3's two promises
-pub record Promised (x : Net) (before stretch : List Call) (W : ℕ) : Type 0 where
-  pub settled : 2 * (x .nodes - 1) * W ≤ roundsHeard x before stretch → AllSettled (atEnd x before stretch)
-  pub real : (x .nodes - 1) * W ≤ roundsHeard x before stretch → AllReal (atEnd x before stretch)
+-- demand 3's two promises of a network of n nodes, from so many accepted rounds of the stretch
+pub record Promises (n W heard : ℕ) (x : Net) : Type 0 where
+  pub settled : 2 * (n - 1) * W ≤ heard → AllSettled x
+  pub real : (n - 1) * W ≤ heard → AllReal x
+
+-- they hold of the network after the last call
+abbrev pub Promised : Net → List Call → List Call → ℕ → Type 0
+Promised x before stretch W = Promises (x .nodes) W (roundsHeard x before stretch) (atEnd x before stretch)
 
 -- every network within limits settles: for every list of calls, refused ones included, every W from 1, and every way to cut the list into
 -- what comes before and the stretch
 abbrev pub Settling : Type 0
 Settling = (x : Net) → Within x → (before stretch : List Call) (W : ℕ) → Supposed x before stretch W → Promised x before stretch W
-
--- the sharper bound: rows are settled from (2n - 3) W rounds on
-abbrev pub SettlingSooner : Type 0
-SettlingSooner =
-    (x : Net) → Within x → (before stretch : List Call) (W : ℕ) → Supposed x before stretch W →
-    (2 * x .nodes - 3) * W ≤ roundsHeard x before stretch → AllSettled (atEnd x before stretch)
