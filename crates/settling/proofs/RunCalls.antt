@@ -4,11 +4,11 @@ use mathlib.Core.Path.{_≡_, refl, sym, ap, subst, _∙_}
 use mathlib.Core.Bool.{Bool, true, false, cond}
 use mathlib.Core.List.{List, [], _∷_, _++_}
 use mathlib.Core.Logic.{_⊎_, inl, inr, _≢_}
-use Prim.Native.Nat.{ℕ, zero, suc, _+_, _<_}
+use Prim.Native.Nat.{ℕ, zero, suc, _+_, _<_, _≤_}
 use native.Mathlib.Omega.{arith}
 use native.Mathlib.Nat.{zero-add}
 use lib.Dec.{ltb}
-use lib.ListN.{length, drop}
+use lib.ListN.{length, drop, length-drop}
 use borrow.Author.Tests.{eq-eqb, ne-eqb}
 use Rattle.ancestors.proofs.Cases.{bool-cases, eq-or-ne, never, cond-by}
 use Rattle.network.specs.Faults.{gradeFault}
@@ -185,6 +185,25 @@ events-as (suc k) x n at (kind ∷ b) = go (allowed asEvent kind) (ltb (length b
     go true false p again =
         by-call _ x (bodyOf kind b) n at (eventOf at kind (bodyOf kind b)) (eventCall kind (bodyOf kind b)) rest
         (same-done x at (bodyOf kind b) kind (kind-small asEvent kind p) p) (λ z. again z _ _ _)
+
+-- the number of events at most never decides: with as many as there are bytes, more give the same
+no-bytes : (k at : ℕ) → eventsIn k at [] ≡ ended
+unfolding eventsIn
+no-bytes zero at = refl
+no-bytes (suc k) at = refl
+
+pub run-events-enough : (k j at : ℕ) (bs : List ℕ) → length bs ≤ k → eventsIn (k + j) at bs ≡ eventsIn k at bs
+unfolding eventsIn
+run-events-enough zero j at [] h = no-bytes (zero + j) at
+run-events-enough zero j at (kind ∷ b) h = absurd (omega arith)
+run-events-enough (suc k) j at [] h = no-bytes (suc k + j) at
+run-events-enough (suc k) j at (kind ∷ b) h =
+    let e : suc k + j ≡ suc (k + j) = omega arith in
+    let l = bodyLength kind in
+    let same = run-events-enough k j (at + suc l) (drop l b) (omega (arith, length-drop l b)) in
+    rw e
+    (λ i.
+    cond (allowed asEvent kind) (cond (ltb (length b) l) (malformed 1 at) (event at (eventCall kind (bodyOf kind b)) (same i))) (malformed 2 at))
 
 -- ---- a run
 
