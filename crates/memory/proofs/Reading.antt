@@ -17,7 +17,8 @@ use Rattle.memory.specs.Layout.{netOf, look, view, wide, rowOf, arcCosts
 use Rattle.memory.specs.Answers.{RowAnswer, rowHops, readRow, rowMeans, readCost, costMeans, readHeld, heldMeans}
 use Rattle.memory.specs.declared.RowRead.the-variants as R
 use Rattle.memory.specs.declared.HeldRead.the-variants as H
-use Rattle.memory.proofs.Store.{few, cell-in, read-relay, read-origin}
+use Rattle.memory.proofs.Laws.{few, read-origin}
+use Rattle.memory.proofs.Store.{cell-in, read-relay}
 
 -- ---- rows
 

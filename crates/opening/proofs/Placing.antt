@@ -17,7 +17,7 @@ use Rattle.network.proofs.Effects.{outcome-number, accepted-net}
 use Rattle.network.proofs.FaultLaws.{pair-says, cost-free, node-free}
 use Rattle.memory.specs.Layout.{view}
 use Rattle.memory.specs.Answers.{Leaves}
-use Rattle.memory.proofs.Store.{few}
+use Rattle.memory.proofs.Laws.{few}
 use Rattle.records.specs.declared.ArcChange.the-variants.{Set}
 use Rattle.records.specs.declared.Event.{Event}
 use Rattle.records.specs.declared.Event.the-variants.{End, Change, Row, Report}

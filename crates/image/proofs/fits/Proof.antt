@@ -7,7 +7,7 @@ use mathlib.Core.Path.{refl, sym, ap}
 use lib.Dec.{leb}
 use denote.Ref.{now}
 use Rattle.memory.specs.Layout.{view}
-use Rattle.memory.proofs.Store.{read-origin}
+use Rattle.memory.proofs.Laws.{read-origin}
 use Rattle.records.proofs.Sizes.{image-bound, largest-image}
 use Rattle.image.proofs.fits.Statement.{statement}
 use Rattle.image.proofs.fits.Tie as tie

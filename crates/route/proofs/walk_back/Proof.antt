@@ -12,7 +12,7 @@ use Rattle.network.specs.Faults.{maxNodes}
 use Rattle.network.specs.Route.{walk, walkBack}
 use Rattle.memory.specs.Layout.{view}
 use Rattle.memory.specs.Answers.{rowMeans}
-use Rattle.memory.proofs.Store.{few}
+use Rattle.memory.proofs.Laws.{few}
 use Rattle.route.proofs.Answering.{row-read, node-read, start-walk, step-spent, step-again, step-lost, step-arrived, step-onward}
 use Rattle.route.proofs.walk_back.Statement.{statement}
 use Rattle.route.proofs.walk_back.Tie as tie
