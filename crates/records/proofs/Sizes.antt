@@ -47,7 +47,7 @@ arc-most : (s r c : ℕ) → length (arcBytes s r c) ≤ recordLength 2
 unfolding arcBytes recordLength bodyLength
 arc-most s r c = go (eqb c 0)
   where
-    go : (b : Bool) → length (cond b [] (arcRecord s r c)) ≤ 5
+    go : (b : Bool) → length (cond b [] (arcRecord s r c)) ≤ recordLength 2
     go true = omega arith
     go false = omega (arith, arc-long s r c)
 
