@@ -35,15 +35,15 @@ pub refused-net : (k : ℕ) (next x : Net) → k ≢ 0 → outcome k next x .net
 unfolding outcome
 refused-net k next x h = rw (ne-eqb k 0 h)
 
--- an accepted call gives the next one
-pub accepted-net : (k : ℕ) (next x : Net) → k ≡ 0 → outcome k next x .net ≡ next
-unfolding outcome
-accepted-net k next x e = rw (eq-eqb k 0 e)
-
 -- and what it would have given plays no part
 pub refused-same : (k : ℕ) (next other x : Net) → k ≢ 0 → outcome k next x ≡ outcome k other x
 unfolding outcome
 refused-same k next other x h = rw (ne-eqb k 0 h)
+
+-- an accepted call gives the next one
+pub accepted-net : (k : ℕ) (next x : Net) → k ≡ 0 → outcome k next x .net ≡ next
+unfolding outcome
+accepted-net k next x e = rw (eq-eqb k 0 e)
 
 -- a call that changes nothing leaves the network, whatever its number
 pub outcome-same : (k : ℕ) (x : Net) → outcome k x x .net ≡ x

@@ -20,13 +20,13 @@ use Rattle.network.proofs.FaultLaws.{node-says}
 
 -- the walk reads a node's row, and none elsewhere
 module _ (x : Net) (y : ℕ) where
-  pub row-beyond : nodeFault (x .nodes) y ≡ true → routeRow x y ≡ none
+  pub reads-none : nodeFault (x .nodes) y ≡ true → routeRow x y ≡ none
   unfolding routeRow
-  row-beyond f = rw f
+  reads-none f = rw f
 
-  pub row-within : nodeFault (x .nodes) y ≡ false → routeRow x y ≡ x .row y
+  pub reads-row : nodeFault (x .nodes) y ≡ false → routeRow x y ≡ x .row y
   unfolding routeRow
-  row-within f = rw f
+  reads-row f = rw f
 
 -- which rows have no route
 pub none-unrouted : {w : Row} → w ≡ none → unrouted w ≡ true
@@ -44,7 +44,7 @@ via-routed e = rw e
 -- what has a route is a node, with its own row
 pub routed : (x : Net) (y : ℕ) → unrouted (routeRow x y) ≡ false → (y < x .nodes) × (routeRow x y ≡ x .row y)
 routed x y e =
-    ⊎-elim (λ f. never (unrouted (routeRow x y)) (none-unrouted (row-beyond x y f)) e) (λ f. (node-says (x .nodes) y f, row-within x y f))
+    ⊎-elim (λ f. never (unrouted (routeRow x y)) (none-unrouted (reads-none x y f)) e) (λ f. (node-says (x .nodes) y f, reads-row x y f))
     (bool-cases (nodeFault (x .nodes) y))
 
 -- ---- a step of the walk

@@ -161,6 +161,6 @@ pub largest-image : maxImage ≡ 16217
 unfolding maxImage fullImage recordLength bodyLength
 largest-image = refl
 
-pub any-image : fullImage maxNodes ≡ 16228
+pub largest-any : fullImage maxNodes ≡ 16228
 unfolding fullImage recordLength bodyLength
-any-image = refl
+largest-any = refl

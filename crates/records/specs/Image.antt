@@ -52,11 +52,11 @@ image x =
 unfoldable pub recordLength : ℕ → ℕ
 recordLength kind = suc (bodyLength kind)
 
--- the ordered pairs of different nodes, of the most nodes
+-- how many ordered pairs of different nodes the most nodes have
 abbrev pub maxPairs : ℕ
 maxPairs = maxNodes * (maxNodes - 1)
 
--- the bytes of an image of so many rows in which each pair has an arc and a report
+-- the bytes of an image of the header, an arc and a report for each pair, so many rows, and the end
 unfoldable pub fullImage : ℕ → ℕ
 fullImage rows =
     recordLength 1 +

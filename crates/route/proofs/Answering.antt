@@ -20,7 +20,7 @@ use Rattle.network.specs.Writing.{Writes}
 use Rattle.network.proofs.Accepting.{two-tests}
 use Rattle.network.proofs.FaultLaws.{node-says}
 use Rattle.network.proofs.RouteLaws.{route-three, route-eight, route-nine, route-six, route-free, route-refused, route-written}
-use Rattle.network.proofs.Walking.{row-beyond, row-within, none-unrouted, root-routed, via-routed, walk-start, walk-again, walk-lost, walk-arrived, walk-onward, walk-spent}
+use Rattle.network.proofs.Walking.{reads-none, reads-row, none-unrouted, root-routed, via-routed, walk-start, walk-again, walk-lost, walk-arrived, walk-onward, walk-spent}
 use Rattle.memory.specs.Answers.{readRow, rowMeans}
 use Rattle.memory.specs.declared.RowRead.{RowRead}
 use Rattle.memory.specs.declared.RowRead.the-variants as R
@@ -49,16 +49,16 @@ module _ (x : Net) (y : ℕ) (r : RowRead) (said : rowMeans r ≡ readRow x y) w
 
   -- the row that the walk reads; what has one is a node
   pub lost-refused : r ≡ R.Refused → routeRow x y ≡ none
-  lost-refused e = row-beyond x y (said-refused x y r said e)
+  lost-refused e = reads-none x y (said-refused x y r said e)
 
   pub lost-none : r ≡ R.NoRoute → routeRow x y ≡ none
-  lost-none e = let a = said-none x y r said e in row-within x y (a .0) ∙ a .1
+  lost-none e = let a = said-none x y r said e in reads-row x y (a .0) ∙ a .1
 
   pub at-origin : {l k : ℕ} → r ≡ R.Origin l k → (y < x .nodes) × (routeRow x y ≡ root l)
-  at-origin e = let a = said-origin x y r said e in (node-says (x .nodes) y (a .0), row-within x y (a .0) ∙ a .1)
+  at-origin e = let a = said-origin x y r said e in (node-says (x .nodes) y (a .0), reads-row x y (a .0) ∙ a .1)
 
   pub at-relay : {d p l k : ℕ} → r ≡ R.Route d p l k → (y < x .nodes) × (routeRow x y ≡ via d p l)
-  at-relay e = let a = said-route x y r said e in (node-says (x .nodes) y (a .0), row-within x y (a .0) ∙ a .1)
+  at-relay e = let a = said-route x y r said e in (node-says (x .nodes) y (a .0), reads-row x y (a .0) ∙ a .1)
 
 -- ---- the walk, its route stored at the end of the bytes
 

@@ -1,7 +1,7 @@
 -- The fields of a row by what `memory` answers.
 -- Assumes nothing.
 use mathlib.Core.Path.{_≡_}
-use mathlib.Core.List.{List, _++_}
+use mathlib.Core.List.{_++_}
 use Prim.Native.Nat.{ℕ, _<_}
 use Rattle.ancestors.proofs.Cases.{never}
 use Rattle.network.specs.Faults.{nodeFault}
