@@ -8,10 +8,10 @@ use native.Mathlib.Omega.{arith}
 use lib.ListN.{length, drop}
 use Rattle.ancestors.proofs.Cases.{eq-or-ne, le-or-lt}
 use Rattle.records.specs.Numbers.{Bytes}
-use Rattle.records.specs.Image.{image}
+use Rattle.records.specs.Image.{image, maxImage}
 use Rattle.records.specs.Opening.{acceptedOpening, openOf}
-use Rattle.settling.specs.Calls.{roundsHeard}
 use Rattle.records.specs.Running.{runOf}
+use Rattle.settling.specs.Calls.{roundsHeard}
 use Rattle.records.proofs.Sizes.{image-most}
 use Rattle.records.proofs.Acceptance.{reopening}
 use Rattle.records.proofs.Places.{run-small}
@@ -66,8 +66,8 @@ module _ (run out : List ℕ) where
       by-length (inr h) = told 3 0 (omega arith) (omega arith) (omega arith) (call-long run out h)
 
   module _ (bytes : Bytes run) where
-    -- an output of 16,217 bytes has room for every image
-    pub room-enough : length run ≤ maxRun → runOf run .number ≡ 0 → 16217 ≤ length out → callOf run out .answer ≡ 32 * length (image (runOf run .net))
+    -- an output as long as the largest image has room for every image
+    pub room-enough : length run ≤ maxRun → runOf run .number ≡ 0 → maxImage ≤ length out → callOf run out .answer ≡ 32 * length (image (runOf run .net))
     room-enough h z room =
         ap (λ (o : Called). o .answer) (call-written run out h z (omega (arith, image-most (runOf run .net) (run-within run bytes))))
 

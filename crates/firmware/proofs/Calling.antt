@@ -8,11 +8,12 @@ use native.Mathlib.Omega.{arith}
 use lib.ListN.{length, drop}
 use borrow.Author.Tests.{lt-ltb, le-ltb, eq-eqb, ne-eqb}
 use Rattle.ancestors.proofs.Cases.{le-or-lt}
+use Rattle.network.specs.Faults.{maxNodes}
 use Rattle.network.specs.Network.{Net}
 use Rattle.network.specs.Writing.{Writing, Writes}
 use Rattle.network.specs.declared.Written.{Written}
 use Rattle.memory.specs.Layout.{view}
-use Rattle.records.specs.Image.{image, imageOf}
+use Rattle.records.specs.Image.{image, fullImage, imageOf}
 use Rattle.records.specs.Running.{runOf}
 use Rattle.records.proofs.Sizes.{image-any}
 use Rattle.records.proofs.ImageWriting.{image-short, image-fits}
@@ -102,11 +103,11 @@ module _ (run out : List ℕ) where
                 output = written .output ∙ ap (λ (v : Writing). v .output) s;
               })
 
-      -- an image's length is small
-      pub length-small : w .length ≤ 16228
+      -- an image's length is that of any network at most
+      pub length-small : w .length ≤ fullImage maxNodes
       length-small = go (le-or-lt (length (image (runOf run .net))) (length out))
         where
-          go : (length (image (runOf run .net)) ≤ length out) ⊎ (length out < length (image (runOf run .net))) → w .length ≤ 16228
+          go : (length (image (runOf run .net)) ≤ length out) ⊎ (length out < length (image (runOf run .net))) → w .length ≤ fullImage maxNodes
           go (inl h) =
               omega (arith, written .length, ap (λ (v : Writing). v .length) (image-fits (runOf run .net) out h), image-any (runOf run .net))
           go (inr h) = omega (arith, written .length, ap (λ (v : Writing). v .length) (image-short (runOf run .net) out h))

@@ -2,16 +2,13 @@
 -- Assumes nothing.
 use mathlib.Core.Path.{_≡_, sym, ap, _∙_}
 use mathlib.Core.Bool.{cond}
-use mathlib.Core.Logic.{⊎-elim}
 use mathlib.Core.List.{List, [], _++_, append-assoc, append-nil}
 use Prim.Native.Nat.{ℕ, _+_, _-_, _≤_}
 use native.Mathlib.Omega.{arith}
 use lib.ListN.{length, length-append}
-use borrow.Author.Tests.{le-leb}
-use Rattle.ancestors.proofs.Cases.{bool-cases}
 use Rattle.network.specs.Faults.{nodeFault, pairFault}
 use Rattle.network.specs.Network.{Net}
-use Rattle.network.proofs.FaultLaws.{pair-says}
+use Rattle.network.proofs.FaultLaws.{node-bad, sender-bad, receiver-bad}
 use Rattle.records.specs.Records.{endRecord, headerRecord}
 use Rattle.records.specs.Image.{each, arcBytes, rowBytes, reportBytes, byNode, byPair, image}
 use Rattle.records.proofs.Each.{each-same, each-split, each-none}
@@ -36,15 +33,13 @@ pairs-cut f n d h a b =
 -- nothing at a sender, a receiver or a node that is not below n
 module _ (n : ℕ) (l : ℕ → ℕ → List ℕ) (s r : ℕ) where
   sender-none : n ≤ s → cond (pairFault n s r) [] (l s r) ≡ []
-  unfolding pairFault
-  sender-none h = rw (le-leb n s h)
+  sender-none h = rw (sender-bad n s r h)
 
   receiver-none : n ≤ r → cond (pairFault n s r) [] (l s r) ≡ []
-  receiver-none h = ⊎-elim (λ e. rw e) (λ e. absurd (omega (arith, pair-says n s r e .1))) (bool-cases (pairFault n s r))
+  receiver-none h = rw (receiver-bad n s r h)
 
 node-none : (n y : ℕ) (l : List ℕ) → n ≤ y → cond (nodeFault n y) [] l ≡ []
-unfolding nodeFault
-node-none n y l h = rw (le-leb n y h)
+node-none n y l h = rw (node-bad n y h)
 
 module _ (x : Net) (n o : ℕ) (nodes : n ≡ x .nodes) (origin : o ≡ x .origin) (few : x .nodes ≤ 32) where
   -- the records of the nodes below n, each after those before it

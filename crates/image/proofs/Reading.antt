@@ -1,17 +1,17 @@
 -- The records of an image by what `memory` answers of an arc, a row or a report.
 -- Assumes nothing.
-use mathlib.Core.Path.{_≡_, refl, sym, ap, _∙_}
-use mathlib.Core.Bool.{Bool, true, false, cond}
-use mathlib.Core.List.{List, [], _∷_}
+use mathlib.Core.Path.{_≡_, refl, _∙_}
+use mathlib.Core.List.{[], _∷_}
 use mathlib.Core.Logic.{⊎-elim}
 use Prim.Native.Nat.{ℕ}
 use native.Mathlib.Omega.{arith}
 use borrow.Author.Tests.{eq-eqb, ne-eqb}
 use types.Run.{OneOf}
 use denote.Enum.Declared.{tagOf}
-use Rattle.network.specs.Faults.{nodeFault, pairFault}
+use Rattle.ancestors.proofs.Cases.{bool-cases}
+use Rattle.network.specs.Faults.{pairFault}
 use Rattle.network.specs.Network.{Net}
-use Rattle.memory.specs.Answers.{RowAnswer, CostAnswer, HeldAnswer, readRow, rowMeans, readCost, costMeans, readHeld, heldMeans}
+use Rattle.memory.specs.Answers.{readRow, rowMeans, readCost, costMeans, readHeld, heldMeans}
 use Rattle.memory.specs.declared.CostRead.{CostRead}
 use Rattle.memory.specs.declared.RowRead.{RowRead}
 use Rattle.memory.specs.declared.RowRead.the-variants as R
@@ -19,22 +19,17 @@ use Rattle.memory.specs.declared.HeldRead.{HeldRead}
 use Rattle.memory.specs.declared.HeldRead.the-variants as H
 use Rattle.memory.proofs.RowRead as row-read
 use Rattle.memory.proofs.HeldRead as held-read
+use Rattle.memory.proofs.Laws.{said-refused, said-none, said-origin, said-route, said-no-cost, said-cost, said-no-pair, said-empty, said-report}
 use Rattle.records.specs.Records.{arcRecord, rowRecord, reportRecord}
 use Rattle.records.specs.Image.{arcBytes, rowBytes, reportBytes}
 use Rattle.image.specs.Lines.{arcAt, rowAt, reportAt, recordAt}
-
--- bytes that a fault leaves out, by an answer m that has no bytes at a fault
-read-bytes : {A B : Type 0} (part : A → B) (f : B → List ℕ) (none some m : A) (b : Bool) → f (part none) ≡ [] → m ≡ cond b none some
-    → cond b [] (f (part some)) ≡ f (part m)
-read-bytes part f none some m true h e = sym (ap (λ a. f (part a)) e ∙ h)
-read-bytes part f none some m false h e = sym (ap (λ a. f (part a)) e)
 
 -- ---- an arc
 
 module _ (x : Net) (s r : ℕ) (c : CostRead) (said : costMeans c ≡ readCost x s r) where
   arc-bytes : arcAt x s r ≡ arcBytes s r (c .cost)
-  unfolding arcAt arcBytes costMeans readCost
-  arc-bytes = read-bytes (λ (a : CostAnswer). a .cost) (arcBytes s r) _ _ _ (pairFault (x .nodes) s r) refl said
+  unfolding arcAt arcBytes
+  arc-bytes = ⊎-elim (λ f. rw (said-no-cost x s r c said f, f)) (λ f. rw (said-cost x s r c said f, f)) (bool-cases (pairFault (x .nodes) s r))
 
   -- there is a record where the cost is not 0
   pub arc-none : c .cost ≡ 0 → arcAt x s r ≡ []
@@ -47,48 +42,34 @@ module _ (x : Net) (s r : ℕ) (c : CostRead) (said : costMeans c ≡ readCost x
 
 -- ---- a row
 
--- no node, no route, or the origin
-no-route : (y : ℕ) (r : RowRead) → OneOf (0 ∷ 1 ∷ 2 ∷ []) (tagOf row-read.the-type r) → rowBytes y (rowMeans r .row) ≡ []
-unfolding rowBytes rowMeans
-no-route y R.Refused h = refl
-no-route y R.NoRoute h = refl
-no-route y (R.Origin l s) h = refl
-no-route y (R.Route d p l s) h = absurd (⊎-elim (λ e. omega arith) (λ g. ⊎-elim (λ e. omega arith) (λ e. omega arith) g) h)
+module _ (x : Net) (y : ℕ) where
+  -- no node, no route, or the origin
+  pub row-none : (r : RowRead) → rowMeans r ≡ readRow x y → OneOf (0 ∷ 1 ∷ 2 ∷ []) (tagOf row-read.the-type r) → rowAt x y ≡ []
+  unfolding rowAt rowBytes
+  row-none R.Refused said h = rw (said-refused x y _ said refl)
+  row-none R.NoRoute said h = let a = said-none x y _ said refl in rw (a .0, a .1)
+  row-none (R.Origin l s) said h = let a = said-origin x y _ said refl in rw (a .0, a .1)
+  row-none (R.Route d p l s) said h = absurd (⊎-elim (λ e. omega arith) (λ g. ⊎-elim (λ e. omega arith) (λ e. omega arith) g) h)
 
-module _ (x : Net) (y : ℕ) (r : RowRead) (said : rowMeans r ≡ readRow x y) where
-  row-bytes : rowAt x y ≡ rowBytes y (rowMeans r .row)
-  unfolding rowAt rowBytes readRow
-  row-bytes = read-bytes (λ (a : RowAnswer). a .row) (rowBytes y) _ _ _ (nodeFault (x .nodes) y) refl said
-
-  -- there is a record where a relay has a route
-  pub row-none : OneOf (0 ∷ 1 ∷ 2 ∷ []) (tagOf row-read.the-type r) → rowAt x y ≡ []
-  row-none h = row-bytes ∙ no-route y r h
-
-  pub row-some : {d p l s : ℕ} → r ≡ R.Route d p l s → rowAt x y ≡ rowRecord y d p l
-  unfolding rowBytes rowMeans
-  row-some e = row-bytes ∙ ap (λ (a : RowRead). rowBytes y (rowMeans a .row)) e
+  -- a relay with a route
+  pub row-some : (r : RowRead) → rowMeans r ≡ readRow x y → {d p l s : ℕ} → r ≡ R.Route d p l s → rowAt x y ≡ rowRecord y d p l
+  unfolding rowAt rowBytes
+  row-some r said e = let a = said-route x y r said e in rw (a .0, a .1)
 
 -- ---- a report
 
--- no pair of nodes, or an empty report
-no-report : (s t : ℕ) (r : HeldRead) → OneOf (0 ∷ 1 ∷ []) (tagOf held-read.the-type r) → reportBytes s t (heldMeans r .held) ≡ []
-unfolding reportBytes heldMeans
-no-report s t H.Refused h = refl
-no-report s t H.Empty h = refl
-no-report s t (H.Report d l) h = absurd (⊎-elim (λ e. omega arith) (λ e. omega arith) h)
+module _ (x : Net) (s t : ℕ) where
+  -- no pair of nodes, or an empty report
+  pub report-none : (r : HeldRead) → heldMeans r ≡ readHeld x s t → OneOf (0 ∷ 1 ∷ []) (tagOf held-read.the-type r) → reportAt x s t ≡ []
+  unfolding reportAt reportBytes
+  report-none H.Refused said h = rw (said-no-pair x s t _ said refl)
+  report-none H.Empty said h = let a = said-empty x s t _ said refl in rw (a .0, a .1)
+  report-none (H.Report d l) said h = absurd (⊎-elim (λ e. omega arith) (λ e. omega arith) h)
 
-module _ (x : Net) (s t : ℕ) (r : HeldRead) (said : heldMeans r ≡ readHeld x s t) where
-  report-bytes : reportAt x s t ≡ reportBytes s t (heldMeans r .held)
-  unfolding reportAt reportBytes readHeld
-  report-bytes = read-bytes (λ (a : HeldAnswer). a .held) (reportBytes s t) _ _ _ (pairFault (x .nodes) s t) refl said
-
-  -- there is a record where an arc holds a report
-  pub report-none : OneOf (0 ∷ 1 ∷ []) (tagOf held-read.the-type r) → reportAt x s t ≡ []
-  report-none h = report-bytes ∙ no-report s t r h
-
-  pub report-some : {d l : ℕ} → r ≡ H.Report d l → reportAt x s t ≡ reportRecord s t d l
-  unfolding reportBytes heldMeans
-  report-some e = report-bytes ∙ ap (λ (a : HeldRead). reportBytes s t (heldMeans a .held)) e
+  -- a report
+  pub report-some : (r : HeldRead) → heldMeans r ≡ readHeld x s t → {d l : ℕ} → r ≡ H.Report d l → reportAt x s t ≡ reportRecord s t d l
+  unfolding reportAt reportBytes
+  report-some r said e = let a = said-report x s t r said e in rw (a .0, a .1)
 
 -- ---- by kind
 

@@ -20,8 +20,30 @@ use memory::Network;
 use memory::RowRead;
 use network::Written;
 
-// The bytes of the largest image: 32 nodes, every arc with a report, every relay with a route.
-pub const MAX_IMAGE: usize = 16217;
+// The bytes of a record of each kind: its kind byte and its body.
+const END_LENGTH: usize = 1;
+
+const HEADER_LENGTH: usize = 1 + 2;
+
+const ARC_LENGTH: usize = 1 + 4;
+
+const ROW_LENGTH: usize = 1 + 10;
+
+const REPORT_LENGTH: usize = 1 + 10;
+
+// The first and the last record of an image.
+const ENDS_LENGTH: usize = HEADER_LENGTH + END_LENGTH;
+
+// The most nodes, and the ordered pairs of different ones.
+const NODES: usize = network::MAX_NODES as usize;
+
+const PAIRS: usize = NODES * (NODES - 1);
+
+// The bytes of the largest image: every pair with an arc and a report, every node but the origin with a route.
+pub const MAX_IMAGE: usize = ENDS_LENGTH
+    + PAIRS * ARC_LENGTH
+    + (NODES - 1) * ROW_LENGTH
+    + PAIRS * REPORT_LENGTH;
 
 // Kinds of records.
 const END: u8 = 0;
@@ -42,7 +64,7 @@ fn put_end(out: &mut [u8]) -> usize
     ensures { λ r. ⌜ Wrote endRecord (now (out .entry)) (now (out .exit)) r ⌝ }
 {
     out[0] = END;
-    1
+    END_LENGTH
 }
 
 // The first record of an image.
@@ -53,7 +75,7 @@ fn put_header(out: &mut [u8], n: u32, origin: u32) -> usize
     out[0] = HEADER;
     out[1] = (n % 256) as u8;
     out[2] = (origin % 256) as u8;
-    3
+    HEADER_LENGTH
 }
 
 // The compiler joins the bytes of a number into one store where no other byte is stored right before them. So the next writers begin with a number, and
@@ -69,7 +91,7 @@ fn put_arc(out: &mut [u8], sender: u32, receiver: u32, cost: u32) -> usize
     out[0] = ARC;
     out[1] = (sender % 256) as u8;
     out[2] = (receiver % 256) as u8;
-    5
+    ARC_LENGTH
 }
 
 // A number in four bytes from a place on.
@@ -89,14 +111,14 @@ fn put_row(out: &mut [u8], node: u32, label: u32, predecessor: u32, list: u32) -
     ensures { λ r. ⌜ Wrote (rowRecord node label predecessor list) (now (out .entry)) (now (out .exit)) r ⌝ }
 {
     put32(out, 2, label);
-    if out.len() < 11 {
-        return 11;
+    if out.len() < ROW_LENGTH {
+        return ROW_LENGTH;
     }
     put32(out, 7, list);
     out[0] = ROW;
     out[1] = (node % 256) as u8;
     out[6] = (predecessor % 256) as u8;
-    11
+    ROW_LENGTH
 }
 
 // The record of a held report.
@@ -105,14 +127,14 @@ fn put_report(out: &mut [u8], sender: u32, receiver: u32, label: u32, list: u32)
     ensures { λ r. ⌜ Wrote (reportRecord sender receiver label list) (now (out .entry)) (now (out .exit)) r ⌝ }
 {
     put32(out, 3, label);
-    if out.len() < 11 {
-        return 11;
+    if out.len() < REPORT_LENGTH {
+        return REPORT_LENGTH;
     }
     put32(out, 7, list);
     out[0] = REPORT;
     out[1] = (sender % 256) as u8;
     out[2] = (receiver % 256) as u8;
-    11
+    REPORT_LENGTH
 }
 
 // ---- lengths
@@ -126,7 +148,7 @@ fn record_length(net: &Network, kind: u8, s: u32, i: u32) -> usize
         if read.cost == 0 {
             return 0;
         }
-        return 5;
+        return ARC_LENGTH;
     }
     if kind == ROW {
         let RowRead::Route {
@@ -138,12 +160,12 @@ fn record_length(net: &Network, kind: u8, s: u32, i: u32) -> usize
         else {
             return 0;
         };
-        return 11;
+        return ROW_LENGTH;
     }
     let HeldRead::Report { label: _, list: _ } = memory::held(net, s, i) else {
         return 0;
     };
-    11
+    REPORT_LENGTH
 }
 
 // The records of sender s to the receivers below n, or those of the nodes below n.
@@ -165,7 +187,7 @@ pub fn image_length(net: &Network) -> usize
     ensures { λ r. ⌜ r ≡ length (image (view (now (net .entry)))) ⌝ }
 {
     let n = memory::nodes(net);
-    let mut total = 4 + line_length(net, ROW, 0, n);
+    let mut total = ENDS_LENGTH + line_length(net, ROW, 0, n);
     let mut s: u32 = 0;
     while s < n {
         total = total + line_length(net, ARC, s, n) + line_length(net, REPORT, s, n);

@@ -14,7 +14,7 @@ use Rattle.network.specs.Words.{reportOf}
 use Rattle.memory.specs.Layout.{words, look, view, arcCosts, heldLabels, heldLists}
 use Rattle.memory.specs.Answers.{Leaves}
 use Rattle.memory.proofs.Store.{read-cost, read-held, store-arc}
-use Rattle.memory.proofs.Leaving.{leaves-refused, leaves-accepted}
+use Rattle.memory.proofs.Laws.{leaves-refused, leaves-accepted}
 
 emptied : (t : Bool) (d l : ℕ) → reportOf d (cond t 0 l) ≡ cond t empty (reportOf d l)
 unfolding reportOf

@@ -1,6 +1,5 @@
+pub mod Laws
 pub mod Store
-pub mod Leaving
-pub mod Wide
 mod Starting
 mod Changing
 mod Reading

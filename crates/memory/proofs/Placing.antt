@@ -19,8 +19,8 @@ use Rattle.network.proofs.FaultLaws.{node-says, pair-says, row-says, report-say
 use Rattle.memory.specs.Layout.{words, view, rowOf, heldLabels, heldLists}
 use Rattle.memory.specs.Inner.{Node}
 use Rattle.memory.specs.Answers.{Leaves}
-use Rattle.memory.proofs.Store.{few, store-report}
-use Rattle.memory.proofs.Leaving.{leaves-refused, leaves-accepted}
+use Rattle.memory.proofs.Laws.{few, leaves-refused, leaves-accepted}
+use Rattle.memory.proofs.Store.{store-report}
 
 -- a list with a node is not 0
 listed-some : (l i : ℕ) → has l i ≡ true → l ≢ 0

@@ -7,17 +7,18 @@ use mathlib.Core.List.{List}
 use Prim.Native.Nat.{ℕ, _+_, _*_, _<_, _≤_}
 use native.Mathlib.Omega.{arith}
 use lib.Dec.{ltb}
-use borrow.Author.Tests.{lt-ltb, le-leb, eq-eqb, ne-eqb}
+use borrow.Author.Tests.{lt-ltb, eq-eqb, ne-eqb}
 use Rattle.ancestors.specs.Ancestors.{own, hops}
-use Rattle.network.specs.Faults.{nodeFault, pairFault}
+use Rattle.network.specs.Faults.{pairFault}
 use Rattle.network.specs.Network.{Row, Net}
 use Rattle.network.specs.Words.{reportOf}
-use Rattle.network.proofs.FaultLaws.{node-free, pair-says}
+use Rattle.network.proofs.FaultLaws.{node-free, node-bad, pair-says}
 use Rattle.memory.specs.Layout.{netOf, look, view, wide, rowOf, arcCosts, heldLabels, heldLists, rowLabels, rowLists, rowPredecessors}
 use Rattle.memory.specs.Answers.{RowAnswer, rowHops, readRow, rowMeans, readCost, costMeans, readHeld, heldMeans}
 use Rattle.memory.specs.declared.RowRead.the-variants as R
 use Rattle.memory.specs.declared.HeldRead.the-variants as H
-use Rattle.memory.proofs.Store.{few, cell-in, read-relay, read-origin}
+use Rattle.memory.proofs.Laws.{few, read-origin}
+use Rattle.memory.proofs.Store.{cell-in, read-relay}
 
 -- ---- rows
 
@@ -30,8 +31,8 @@ unfolding readRow
 read-node x y h = rw (node-free (x .nodes) y h)
 
 pub row-refused : (x : Net) (y : ℕ) → x .nodes ≤ y → rowMeans R.Refused ≡ readRow x y
-unfolding rowMeans readRow nodeFault
-row-refused x y h = rw (le-leb (x .nodes) y h)
+unfolding rowMeans readRow
+row-refused x y h = rw (node-bad (x .nodes) y h)
 
 module _ (xs : List ℕ) (y : ℕ) (node : y < view xs .nodes) where
   -- the origin's list and hops are computed

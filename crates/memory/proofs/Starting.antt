@@ -19,7 +19,7 @@ use Rattle.memory.specs.Inner.{Blank}
 use Rattle.memory.specs.Answers.{Starts}
 use Rattle.network.proofs.Effects.{same-net}
 use Rattle.memory.proofs.Store.{word-zero, cell-zero}
-use Rattle.memory.proofs.Leaving.{starts-refused, starts-accepted}
+use Rattle.memory.proofs.Laws.{starts-refused, starts-accepted}
 
 zero-at : (n k : ℕ) → getD {A = ℕ} (replicate n 0) k 0 ≡ 0
 zero-at zero k = refl

@@ -19,11 +19,7 @@ use Rattle.network.proofs.FaultLaws.{pair-says}
 use Rattle.network.proofs.Effects.{same-net}
 use Rattle.memory.specs.Inner.{Node}
 use Rattle.memory.specs.Layout.{words, word, cell, rowOf, rowAt, netOf, look, view, arcCosts, heldLabels, heldLists, rowLabels, rowLists, rowPredecessors}
-
--- a network has at most 32 nodes
-pub few : (xs : List ℕ) → view xs .nodes ≤ 32
-unfolding view netOf
-few xs = omega arith
+use Rattle.memory.proofs.Laws.{few}
 
 -- ---- a word stored
 
@@ -212,10 +208,6 @@ module _ (xs : List ℕ) where
       rw (ne-eqb y (look xs 1) o)
       (λ j. rowOf (sym (word-in n (look xs) rowLabels y h) j) (sym (word-in n (look xs) rowPredecessors y h) j)
       (sym (word-in n (look xs) rowLists y h) j))
-
-  pub read-origin : (y : ℕ) → y ≡ view xs .origin → view xs .row y ≡ root (own y)
-  unfolding view netOf rowAt
-  read-origin y o = rw (← o, eqb-same y)
 
 -- ---- stores of whole parts
 module _ (xs : List ℕ) (size : length xs ≡ words) where

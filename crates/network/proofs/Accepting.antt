@@ -1,7 +1,7 @@
--- What it means that a call is accepted: its tests fail. (A round call's: Marking.)
+-- What it means that a call is accepted: its tests fail; and the number of one that is not. (A round call's: Marking.)
 -- Assumes nothing.
 use mathlib.Core.Path.{_≡_, refl}
-use mathlib.Core.Bool.{Bool, true, false, cond, _||_}
+use mathlib.Core.Bool.{Bool, true, false, cond, _||_, or-true}
 use Prim.Native.Nat.{ℕ, suc}
 use native.Mathlib.Omega.{arith}
 use Rattle.ancestors.proofs.Cases.{or-neither}
@@ -15,7 +15,7 @@ one-test : (t : Bool) (k : ℕ) → cond t (suc k) 0 ≡ 0 → t ≡ false
 one-test true k e = absurd (omega arith)
 one-test false k e = refl
 
-two-tests : (a b : Bool) (j k : ℕ) → cond a (suc j) (cond b (suc k) 0) ≡ 0 → (a ≡ false) × (b ≡ false)
+pub two-tests : (a b : Bool) (j k : ℕ) → cond a (suc j) (cond b (suc k) 0) ≡ 0 → (a ≡ false) × (b ≡ false)
 two-tests true b j k e = absurd (omega arith)
 two-tests false true j k e = absurd (omega arith)
 two-tests false false j k e = (refl, refl)
@@ -61,3 +61,17 @@ pub place-report-free : (x : Net) (s r d l : ℕ) → pairFault (x .nodes) s r �
     placeReportNumber x s r d l ≡ 0
 unfolding placeReportNumber
 place-report-free x s r d l e f = rw (e, f)
+
+-- ---- and with one it is refused as 3
+
+pub change-bad-pair : (x : Net) (s r c : ℕ) → pairFault (x .nodes) s r ≡ true → changeNumber x s r c ≡ 3
+unfolding changeNumber
+change-bad-pair x s r c e = rw e
+
+pub change-bad-cost : (x : Net) (s r c : ℕ) → costFault c ≡ true → changeNumber x s r c ≡ 3
+unfolding changeNumber
+change-bad-cost x s r c e = rw (e, or-true (pairFault (x .nodes) s r))
+
+pub grade-bad-value : (x : Net) (s r g : ℕ) → gradeFault g ≡ true → gradeNumber x s r g ≡ 3
+unfolding gradeNumber
+grade-bad-value x s r g e = rw (e, or-true (pairFault (x .nodes) s r))

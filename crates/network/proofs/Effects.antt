@@ -1,16 +1,18 @@
--- What each call does to a network, one law each: files above cite these laws and not the definitions.
+-- What each call does to a network or to an output, one law each: files above cite these laws and not the definitions.
 -- Assumes nothing.
-use mathlib.Core.Path.{_≡_, refl, _∙_}
+use mathlib.Core.Path.{_≡_, refl, ap, _∙_}
 use mathlib.Core.Bool.{true, false, cond, _&&_, _||_, or-true, and-false}
 use mathlib.Core.Logic.{_⊎_, inl, inr, _≢_}
-use mathlib.Core.List.{List}
+use mathlib.Core.List.{List, _++_}
 use Prim.Native.Nat.{ℕ, _<_, _≤_}
 use lib.Dec.{eqb, ltb}
+use lib.ListN.{length, drop}
 use borrow.Author.Tests.{lt-ltb, le-ltb, eq-eqb, ne-eqb}
 use Rattle.ancestors.specs.Ancestors.{own}
 use Rattle.ancestors.proofs.Cases.{eq-or-ne, eqb-same}
 use Rattle.network.specs.Faults.{maxGrade}
-use Rattle.network.specs.Network.{Row, none, root, via, Report, empty, told, Net, setAt, setPair, withCost, withRow, withHeld, outcome, freshNet, freshNumber, freshOf}
+use Rattle.network.specs.Network.{Row, none, root, via, Report, empty, told, Net, setAt, setPair, withCost, withRow, withHeld, Outcome, outcome, freshNet, freshNumber, freshOf}
+use Rattle.network.specs.Writing.{writing}
 use Rattle.network.specs.Placing.{placeRowNumber, placeRowOf, placeReportNumber, placeReportOf}
 use Rattle.network.specs.Round.{Marks, report, hear, choice, renewTo, renew, round, marked, roundNumber, roundOf, everyArc, fullRoundOf}
 use Rattle.network.specs.Change.{changed, changeNumber, changeOf, gradeCost, gradeNumber, gradeOf}
@@ -33,6 +35,11 @@ pub refused-net : (k : ℕ) (next x : Net) → k ≢ 0 → outcome k next x .net
 unfolding outcome
 refused-net k next x h = rw (ne-eqb k 0 h)
 
+-- and what it would have given plays no part
+pub refused-same : (k : ℕ) (next other x : Net) → k ≢ 0 → outcome k next x ≡ outcome k other x
+unfolding outcome
+refused-same k next other x h = rw (ne-eqb k 0 h)
+
 -- an accepted call gives the next one
 pub accepted-net : (k : ℕ) (next x : Net) → k ≡ 0 → outcome k next x .net ≡ next
 unfolding outcome
@@ -45,6 +52,17 @@ outcome-same k x = go (eq-or-ne k 0)
     go : (k ≡ 0) ⊎ (k ≢ 0) → outcome k x x .net ≡ x
     go (inl e) = accepted-net k x x e
     go (inr n) = refused-net k x x n
+
+-- number and network of what is an outcome
+module _ {o : Outcome} (k : ℕ) (next x : Net) (is : o ≡ outcome k next x) where
+  pub number-of : o .number ≡ k
+  number-of = ap (λ (p : Outcome). p .number) is ∙ outcome-number k next x
+
+  pub net-accepted : k ≡ 0 → o .net ≡ next
+  net-accepted e = ap (λ (p : Outcome). p .net) is ∙ accepted-net k next x e
+
+  pub net-refused : k ≢ 0 → o .net ≡ x
+  net-refused h = ap (λ (p : Outcome). p .net) is ∙ refused-net k next x h
 
 -- every call answers an outcome
 pub fresh-outcome : (n origin : ℕ) → freshOf n origin ≡ outcome (freshNumber n origin) (freshNet n origin) (freshNet 1 0)
@@ -245,3 +263,14 @@ place-report-effect x s r h =
       held-here = pair-here (x .held) s r h;
       held-else = λ a b n. pair-else (x .held) s r h a b n;
     }
+
+-- ---- bytes written
+
+pub writing-refused : (k : ℕ) (bytes out : List ℕ) → k ≢ 0 → writing k bytes out ≡ record { number = k; length = 0; output = out }
+unfolding writing
+writing-refused k bytes out h = rw (ne-eqb k 0 h)
+
+pub writing-accepted : (bytes out : List ℕ) →
+    writing 0 bytes out ≡ record { number = 0; length = length bytes; output = bytes ++ drop (length bytes) out }
+unfolding writing
+writing-accepted bytes out = refl

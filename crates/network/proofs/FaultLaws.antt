@@ -1,12 +1,12 @@
--- The faults in numbers: NAME-says gives the facts from a fault's absence, NAME-free its absence from the facts.
+-- The faults in numbers: NAME-says gives the facts from a fault's absence, NAME-free its absence from the facts, NAME-bad its presence.
 -- Assumes nothing.
 use mathlib.Core.Path.{_≡_}
-use mathlib.Core.Bool.{true, false, not, _||_}
+use mathlib.Core.Bool.{true, false, not, _||_, or-true}
 use mathlib.Core.Logic.{_≢_}
 use Prim.Native.Nat.{ℕ, _+_, _-_, _^_, _<_, _≤_}
 use native.Mathlib.Omega.{arith}
 use lib.Dec.{eqb, ltb, leb}
-use borrow.Author.Tests.{ltb-false, leb-true, leb-false, eqb-false, le-ltb, lt-leb, ne-eqb, not-false}
+use borrow.Author.Tests.{ltb-false, leb-true, leb-false, eqb-false, lt-ltb, le-ltb, lt-leb, le-leb, ne-eqb, not-false}
 use Rattle.ancestors.specs.Ancestors.{has}
 use Rattle.ancestors.proofs.Cases.{or-neither}
 use Rattle.ancestors.proofs.Laws.{has-beyond, bit-beyond}
@@ -33,6 +33,10 @@ pub node-free : (n y : ℕ) → y < n → nodeFault n y ≡ false
 unfolding nodeFault
 node-free n y h = lt-leb n y h
 
+pub node-bad : (n y : ℕ) → n ≤ y → nodeFault n y ≡ true
+unfolding nodeFault
+node-bad n y h = le-leb n y h
+
 pub pair-says : (n s r : ℕ) → pairFault n s r ≡ false → (s < n) × (r < n) × (s ≢ r)
 unfolding pairFault
 pair-says n s r e =
@@ -44,6 +48,14 @@ pub pair-free : (n s r : ℕ) → s < n → r < n → s ≢ r → pairFault n s 
 unfolding pairFault
 pair-free n s r a b c = rw (lt-leb n s a, lt-leb n r b, ne-eqb s r c)
 
+pub sender-bad : (n s r : ℕ) → n ≤ s → pairFault n s r ≡ true
+unfolding pairFault
+sender-bad n s r h = rw (le-leb n s h)
+
+pub receiver-bad : (n s r : ℕ) → n ≤ r → pairFault n s r ≡ true
+unfolding pairFault
+receiver-bad n s r h = rw (le-leb n r h, or-true (leb n s))
+
 pub cost-says : (c : ℕ) → costFault c ≡ false → c ≤ maxCost
 unfolding costFault
 cost-says c e = ltb-false maxCost c e
@@ -52,6 +64,10 @@ pub cost-free : (c : ℕ) → c ≤ maxCost → costFault c ≡ false
 unfolding costFault
 cost-free c h = le-ltb maxCost c h
 
+pub cost-bad : (c : ℕ) → maxCost < c → costFault c ≡ true
+unfolding costFault
+cost-bad c h = lt-ltb maxCost c h
+
 pub grade-says : (g : ℕ) → gradeFault g ≡ false → g ≤ maxGrade
 unfolding gradeFault
 grade-says g e = ltb-false maxGrade g e
@@ -59,6 +75,10 @@ grade-says g e = ltb-false maxGrade g e
 pub grade-free : (g : ℕ) → g ≤ maxGrade → gradeFault g ≡ false
 unfolding gradeFault
 grade-free g h = le-ltb maxGrade g h
+
+pub grade-bad : (g : ℕ) → maxGrade < g → gradeFault g ≡ true
+unfolding gradeFault
+grade-bad g h = lt-ltb maxGrade g h
 
 -- ---- 5, form
 

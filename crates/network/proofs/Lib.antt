@@ -13,4 +13,5 @@ pub mod Keeping
 mod Least
 mod Bits
 pub mod Walking
+pub mod RouteLaws
 pub mod Numbers

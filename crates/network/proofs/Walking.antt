@@ -1,7 +1,7 @@
--- Laws of the walk along predecessors: its steps, that its bound on nodes breaks no walk, and what it reaches.
+-- Laws of the walk along predecessors: the rows that it reads, its steps, that its bound on nodes breaks no walk, and what it reaches.
 -- Assumes nothing.
 use mathlib.Core.Path.{_≡_, refl, sym, ap, subst, _∙_}
-use mathlib.Core.Bool.{true, false, cond}
+use mathlib.Core.Bool.{true, false}
 use mathlib.Core.Logic.{_⊎_, inl, inr, ⊎-elim}
 use mathlib.Core.List.{List, [], _∷_, _++_, List·Memᴰ, List·Memᴰ·cases-cons, List·Memᴰ·not-nil}
 use Prim.Native.Nat.{ℕ, zero, suc, _+_, _<_, _≤_}
@@ -13,20 +13,46 @@ use Rattle.ancestors.proofs.Counting.{count-le, count-more}
 use Rattle.ancestors.proofs.Laws.{has-put-same, has-kept}
 use Rattle.network.specs.Faults.{maxNodes, nodeFault}
 use Rattle.network.specs.Network.{Row, none, root, via, Net}
-use Rattle.network.specs.Route.{routeRow, Walked, broken, reached, walkAt, walk, walkBack, unrouted}
+use Rattle.network.specs.Route.{routeRow, Walked, broken, reached, walkAt, walk, walkBack, unrouted, Walks, again, lost, arrived, onward, RouteTo}
 use Rattle.network.proofs.FaultLaws.{node-says}
+
+-- ---- rows
+
+-- the walk reads a node's row, and none elsewhere
+module _ (x : Net) (y : ℕ) where
+  pub reads-none : nodeFault (x .nodes) y ≡ true → routeRow x y ≡ none
+  unfolding routeRow
+  reads-none f = rw f
+
+  pub reads-row : nodeFault (x .nodes) y ≡ false → routeRow x y ≡ x .row y
+  unfolding routeRow
+  reads-row f = rw f
+
+-- which rows have no route
+pub none-unrouted : {w : Row} → w ≡ none → unrouted w ≡ true
+unfolding unrouted
+none-unrouted e = rw e
+
+pub root-routed : {w : Row} {l : ℕ} → w ≡ root l → unrouted w ≡ false
+unfolding unrouted
+root-routed e = rw e
+
+pub via-routed : {w : Row} {d p l : ℕ} → w ≡ via d p l → unrouted w ≡ false
+unfolding unrouted
+via-routed e = rw e
 
 -- what has a route is a node, with its own row
 pub routed : (x : Net) (y : ℕ) → unrouted (routeRow x y) ≡ false → (y < x .nodes) × (routeRow x y ≡ x .row y)
-unfolding routeRow unrouted
-routed x y e = go (bool-cases (nodeFault (x .nodes) y))
-  where
-    go : (nodeFault (x .nodes) y ≡ true) ⊎ (nodeFault (x .nodes) y ≡ false) →
-        (y < x .nodes) × (cond (nodeFault (x .nodes) y) none (x .row y) ≡ x .row y)
-    go (inl f) = never true refl (rw f at e)
-    go (inr f) = (node-says (x .nodes) y f, rw f)
+routed x y e =
+    ⊎-elim (λ f. never (unrouted (routeRow x y)) (none-unrouted (reads-none x y f)) e) (λ f. (node-says (x .nodes) y f, reads-row x y f))
+    (bool-cases (nodeFault (x .nodes) y))
 
 -- ---- a step of the walk
+
+-- no node is met yet
+pub walk-start : (x : Net) (y : ℕ) → walkBack x y ≡ walk maxNodes x y 0 []
+unfolding walkBack
+walk-start x y = refl
 
 -- with no node left
 pub walk-spent : (x : Net) (y met : ℕ) (route : List ℕ) → walk zero x y met route ≡ broken
@@ -52,19 +78,7 @@ module _ (k : ℕ) (x : Net) (y met : ℕ) (route : List ℕ) where
     unfolding walk walkAt
     walk-onward d p l r = rw (new, r)
 
--- ---- document 01's walk, with no bound on its nodes
-
--- the walk from y, with the nodes met before and the route from there on, comes to w
-pub data Walks (x : Net) : ℕ → ℕ → List ℕ → Walked → Type 0 where
-  -- at a node already met
-  again : {y met : ℕ} {route : List ℕ} → has met y ≡ true → Walks x y met route broken
-  -- at a node without a route
-  lost : {y met : ℕ} {route : List ℕ} → has met y ≡ false → routeRow x y ≡ none → Walks x y met route broken
-  -- at the origin
-  arrived : {y met : ℕ} {route : List ℕ} (l : ℕ) → has met y ≡ false → routeRow x y ≡ root l → Walks x y met route (reached (y ∷ route))
-  -- by way of the predecessor
-  onward : {y met : ℕ} {route : List ℕ} {w : Walked} (d p l : ℕ) → has met y ≡ false → routeRow x y ≡ via d p l →
-      Walks x p (put met y) (y ∷ route) w → Walks x y met route w
+-- ---- the walk that counts nodes is the one with no bound
 
 -- of the nodes below n, one more is met, and not all were
 module _ (n y met : ℕ) (new : has met y ≡ false) (below : y < n) where
@@ -77,12 +91,10 @@ module _ (n y met : ℕ) (new : has met y ≡ false) (below : y < n) where
 module _ (x : Net) where
   -- a row that leads on, or ends the walk, is a node's
   via-node : (y d p l : ℕ) → routeRow x y ≡ via d p l → y < x .nodes
-  unfolding unrouted
-  via-node y d p l r = routed x y (rw r) .0
+  via-node y d p l r = routed x y (via-routed r) .0
 
   root-node : (y l : ℕ) → routeRow x y ≡ root l → (y < x .nodes) × (x .row y ≡ root l)
-  unfolding unrouted
-  root-node y l r = let q = routed x y (rw r) in (q .0, sym (q .1) ∙ r)
+  root-node y l r = let q = routed x y (root-routed r) in (q .0, sym (q .1) ∙ r)
 
   -- with room for every node not yet met, the walk that counts nodes is that walk
   pub walk-walks : (k y met : ℕ) (route : List ℕ) → x .nodes ≤ count (has met) (x .nodes) + k → Walks x y met route (walk k x y met route)
@@ -134,14 +146,7 @@ module _ (x : Net) where
     pub walk-enough : (k y : ℕ) → walk (maxNodes + k) x y 0 [] ≡ walk maxNodes x y 0 []
     walk-enough k y = walks-walk (walk-walks maxNodes y 0 [] (omega arith)) (maxNodes + k) (omega arith)
 
--- ---- what a route is
-
--- a route to y: it begins at a node with the origin's row, ends with y, and has at most n nodes, all below n
-pub record RouteTo (x : Net) (y : ℕ) (route : List ℕ) : Type 0 where
-  pub first : (o l : ℕ) × (rest : List ℕ) × (route ≡ o ∷ rest) × (x .row o ≡ root l)
-  pub last : (front : List ℕ) × (route ≡ front ++ y ∷ [])
-  pub short : length route ≤ x .nodes
-  pub below : (a : ℕ) → List·Memᴰ a route → a < x .nodes
+-- ---- what the walk reaches
 
 -- the nodes of a route with one node more
 cons-below : (n y : ℕ) (route : List ℕ) → y < n → ((a : ℕ) → List·Memᴰ a route → a < n) → (a : ℕ) → List·Memᴰ a (y ∷ route) → a < n

@@ -1,8 +1,9 @@
 -- Document 01, the route call of "Records": the nodes from the origin to a named node, by following predecessors back.
 -- Assumes nothing.
+use mathlib.Core.Path.{_≡_}
 use mathlib.Core.Bool.{Bool, true, false, cond}
-use mathlib.Core.List.{List, [], _∷_}
-use Prim.Native.Nat.{ℕ, zero, suc}
+use mathlib.Core.List.{List, [], _∷_, _++_, List·Memᴰ}
+use Prim.Native.Nat.{ℕ, zero, suc, _<_, _≤_}
 use lib.Dec.{ltb}
 use lib.ListN.{length}
 use Rattle.ancestors.specs.Ancestors.{has, put}
@@ -57,3 +58,26 @@ routeNumber x y room = cond (nodeFault (x .nodes) y) 3 (cond (unrouted (x .row y
 -- accepted, the nodes from the origin to y, one byte each
 unfoldable pub routeOf : Net → ℕ → List ℕ → Writing
 routeOf x y out = writing (routeNumber x y (length out)) (routeNodes (walkBack x y)) out
+
+-- ---- the walk with no bound on its nodes
+
+-- the walk from y, with the nodes met before and the route from there on, comes to w
+pub data Walks (x : Net) : ℕ → ℕ → List ℕ → Walked → Type 0 where
+  -- at a node already met
+  again : {y met : ℕ} {route : List ℕ} → has met y ≡ true → Walks x y met route broken
+  -- at a node without a route
+  lost : {y met : ℕ} {route : List ℕ} → has met y ≡ false → routeRow x y ≡ none → Walks x y met route broken
+  -- at the origin
+  arrived : {y met : ℕ} {route : List ℕ} (l : ℕ) → has met y ≡ false → routeRow x y ≡ root l → Walks x y met route (reached (y ∷ route))
+  -- by way of the predecessor
+  onward : {y met : ℕ} {route : List ℕ} {w : Walked} (d p l : ℕ) → has met y ≡ false → routeRow x y ≡ via d p l →
+      Walks x p (put met y) (y ∷ route) w → Walks x y met route w
+
+-- ---- what a route is
+
+-- a route to y: it begins at a node with the origin's row, ends with y, and has at most n nodes, all below n
+pub record RouteTo (x : Net) (y : ℕ) (route : List ℕ) : Type 0 where
+  pub first : (o l : ℕ) × (rest : List ℕ) × (route ≡ o ∷ rest) × (x .row o ≡ root l)
+  pub last : (front : List ℕ) × (route ≡ front ++ y ∷ [])
+  pub short : length route ≤ x .nodes
+  pub below : (a : ℕ) → List·Memᴰ a route → a < x .nodes

@@ -8,7 +8,8 @@ use native.Mathlib.Omega.{arith}
 use lib.ListN.{length, drop}
 use borrow.Author.Tests.{eq-eqb, ne-eqb}
 use Rattle.network.specs.Network.{freshNet, freshNumber, freshOf}
-use Rattle.network.proofs.Effects.{outcome-number, refused-net, accepted-net}
+use Rattle.network.proofs.Accepting.{fresh-free}
+use Rattle.network.proofs.Effects.{number-of, net-accepted, net-refused, fresh-outcome}
 use Rattle.network.proofs.FaultLaws.{size-free}
 use Rattle.memory.specs.Layout.{view}
 use Rattle.memory.specs.Answers.{Starts}
@@ -32,18 +33,16 @@ refused-opens e at words v = record { number-is = refl; place-is = refl; used-is
 
 -- the fresh network of one node
 pub fresh-one : (k : ℕ) (words : List ℕ) → Starts (freshOf 1 0) k words → view words ≡ freshNet 1 0
-unfolding freshOf freshNumber
-fresh-one k words s = s .net ∙ accepted-net _ (freshNet 1 0) (freshNet 1 0) (rw (size-free 1 0 (omega arith) (omega arith) (omega arith)))
+fresh-one k words s = s .net ∙ net-accepted _ _ _ (fresh-outcome 1 0) (fresh-free 1 0 (size-free 1 0 (omega arith) (omega arith) (omega arith)))
 
 -- ---- the first record, with the number k and the words of the fresh call on what it gives
 
 module _ (bs : List ℕ) (start n o k : ℕ) (words : List ℕ) (s : Starts (freshOf n o) k words) where
   number-is : k ≡ freshNumber n o
-  unfolding freshOf
-  number-is = s .number ∙ outcome-number (freshNumber n o) (freshNet n o) (freshNet 1 0)
+  number-is = s .number ∙ number-of _ _ _ (fresh-outcome n o)
 
   pub fresh-refused : k ≢ 0 → Opens (headed bs start n o) k 0 0 words
-  unfolding freshOf headed
+  unfolding headed
   fresh-refused h =
       let f : freshNumber n o ≢ 0 = λ e. h (number-is ∙ e) in
       opens-same {o = refusedOpening (freshNumber n o) 0} (rw (ne-eqb (freshNumber n o) 0 f))
@@ -51,14 +50,14 @@ module _ (bs : List ℕ) (start n o k : ℕ) (words : List ℕ) (s : Starts (fre
         number-is = number-is;
         place-is = refl;
         used-is = refl;
-        net-is = s .net ∙ refused-net (freshNumber n o) (freshNet n o) (freshNet 1 0) f;
+        net-is = s .net ∙ net-refused _ _ _ (fresh-outcome n o) f;
       })
 
   pub fresh-read : k ≡ 0 → readRecords (length bs) (view words) 0 start (drop start bs) ≡ headed bs start n o
-  unfolding freshOf headed
+  unfolding headed
   fresh-read h =
       let f : freshNumber n o ≡ 0 = sym number-is ∙ h in
-      ap (λ x. readRecords (length bs) x 0 start (drop start bs)) (s .net ∙ accepted-net (freshNumber n o) (freshNet n o) (freshNet 1 0) f)
+      ap (λ x. readRecords (length bs) x 0 start (drop start bs)) (s .net ∙ net-accepted _ _ _ (fresh-outcome n o) f)
       ∙ rw (eq-eqb (freshNumber n o) 0 f)
 
 -- ---- the others

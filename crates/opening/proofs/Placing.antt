@@ -1,23 +1,24 @@
 -- A record of an image placed: the first test that finds a fault decides, and without one the network has the record.
 -- Assumes nothing.
 use mathlib.Core.Path.{_≡_, refl, sym, ap, subst, _∙_}
-use mathlib.Core.Bool.{Bool, true, false, cond, _||_}
+use mathlib.Core.Bool.{true, false, cond}
 use mathlib.Core.Logic.{_⊎_, inl, inr, _≢_}
 use mathlib.Core.List.{List}
 use Prim.Native.Nat.{ℕ, suc, _<_, _≤_}
 use native.Mathlib.Numerals.{add-one}
 use native.Mathlib.Omega.{arith}
-use borrow.Author.Tests.{eq-eqb, ne-eqb, lt-ltb, le-ltb, le-leb}
+use borrow.Author.Tests.{eq-eqb, ne-eqb, lt-ltb, le-ltb}
 use Rattle.ancestors.proofs.Cases.{eq-or-ne}
-use Rattle.network.specs.Faults.{maxCost, nodeFault, pairFault, costFault}
-use Rattle.network.specs.Network.{via, told, Net, withRow, withHeld, outcome}
+use Rattle.network.specs.Faults.{maxCost, nodeFault, pairFault}
+use Rattle.network.specs.Network.{via, told, Net, withRow, withHeld, Outcome, outcome}
 use Rattle.network.specs.Placing.{placeRowNumber, placeRowOf, placeReportNumber, placeReportOf}
 use Rattle.network.specs.Change.{changed, changeNumber, changeOf}
-use Rattle.network.proofs.Effects.{outcome-number, accepted-net}
-use Rattle.network.proofs.FaultLaws.{pair-says, cost-free, node-free}
+use Rattle.network.proofs.Accepting.{change-free, change-bad-pair, change-bad-cost}
+use Rattle.network.proofs.Effects.{number-of, net-accepted, change-outcome, place-row-outcome, place-report-outcome}
+use Rattle.network.proofs.FaultLaws.{pair-says, cost-free, cost-bad, node-free, node-bad}
 use Rattle.memory.specs.Layout.{view}
 use Rattle.memory.specs.Answers.{Leaves}
-use Rattle.memory.proofs.Store.{few}
+use Rattle.memory.proofs.Laws.{few}
 use Rattle.records.specs.declared.ArcChange.the-variants.{Set}
 use Rattle.records.specs.declared.Event.{Event}
 use Rattle.records.specs.declared.Event.the-variants.{End, Change, Row, Report}
@@ -42,21 +43,21 @@ ends x next = record { step = refl; ended = λ q. refl }
 pub of-event : (x : Net) (next : ℕ) (e f : Event) (r : Next) (z : Net) → e ≡ f → Places x next f r z → Places x next e r z
 of-event x next e f r z q p = subst (λ g. Places x next g r z) (sym q) p
 
--- the number k of a record of this rank, after a call that left the words ys
-goes : (x : Net) (next : ℕ) (e : Event) (number : ℕ) (z : Net) (rank k : ℕ) (xs ys : List ℕ) (r : Next) → placed x next e ≡ judged number z rank
-    → Leaves (outcome number z x) k xs ys → r ≡ nextOf k rank → Places x next e r (view ys)
+-- the number k of a record of this rank, after a call with the outcome o that left the words ys
+goes : (x : Net) (next : ℕ) (e : Event) (number : ℕ) (z : Net) (rank k : ℕ) (xs ys : List ℕ) (r : Next) {o : Outcome} → placed x next e ≡ judged number z rank
+    → o ≡ outcome number z x → Leaves o k xs ys → r ≡ nextOf k rank → Places x next e r (view ys)
 unfolding stepMeans nextOf judged
-goes x next e number z rank k xs ys r p l q = go (eq-or-ne number 0)
+goes x next e number z rank k xs ys r p is l q = go (eq-or-ne number 0)
   where
     same : k ≡ number
-    same = l .number ∙ outcome-number number z x
+    same = l .number ∙ number-of _ _ _ is
 
     go : (number ≡ 0) ⊎ (number ≢ 0) → Places x next e r (view ys)
     go (inl h) =
         let a : r ≡ Onward (suc rank) = q ∙ rw (eq-eqb k 0 (same ∙ h), add-one rank) in
         let b : placed x next e ≡ onward z (suc rank) = p ∙ rw (eq-eqb number 0 h) in
         record {
-          step = ap (λ t. stepMeans t (view ys)) a ∙ ap (λ w. onward w (suc rank)) (l .net ∙ accepted-net number z x h) ∙ sym b;
+          step = ap (λ t. stepMeans t (view ys)) a ∙ ap (λ w. onward w (suc rank)) (l .net ∙ net-accepted _ _ _ is h) ∙ sym b;
           ended = λ f. let w : _≡_ {A = ℕ} 0 1 = cc in absurd (omega arith);
         }
     go (inr h) =
@@ -67,18 +68,18 @@ goes x next e number z rank k xs ys r p l q = go (eq-or-ne number 0)
           ended = λ f. let w : _≡_ {A = ℕ} 0 1 = cc in absurd (omega arith);
         }
 
--- ---- tests in their order: range t, the order of a rank, a number m of form
+-- ---- tests in their order: the number a of range, the order of a rank, a number m of form
 
-judged-range : (t : Bool) (m : ℕ) (z : Net) (rank : ℕ) → t ≡ true → judged (firstOf (cond t 3 0) m) z rank ≡ stop 3
+judged-range : (a m : ℕ) (z : Net) (rank : ℕ) → a ≡ 3 → judged (firstOf a m) z rank ≡ stop 3
 unfolding judged firstOf
-judged-range t m z rank h = rw h
+judged-range a m z rank h = rw h
 
-module _ (t : Bool) (next m : ℕ) (z : Net) (rank : ℕ) (h : t ≡ false) where
-  judged-order : rank < next → judged (firstOf (cond t 3 0) (firstOf (orderNumber next rank) m)) z rank ≡ stop 4
+module _ (a next m : ℕ) (z : Net) (rank : ℕ) (h : a ≡ 0) where
+  judged-order : rank < next → judged (firstOf a (firstOf (orderNumber next rank) m)) z rank ≡ stop 4
   unfolding judged firstOf orderNumber
   judged-order o = rw (h, lt-ltb rank next o)
 
-  judged-form : next ≤ rank → judged (firstOf (cond t 3 0) (firstOf (orderNumber next rank) m)) z rank ≡ judged m z rank
+  judged-form : next ≤ rank → judged (firstOf a (firstOf (orderNumber next rank) m)) z rank ≡ judged m z rank
   unfolding firstOf orderNumber
   judged-form o = rw (h, le-ltb rank next o)
 
@@ -100,37 +101,38 @@ pair-small xs n s r is e =
 -- ---- an arc
 
 module _ (xs : List ℕ) (n next s r c : ℕ) (is : n ≡ view xs .nodes) where
-  abbrev range : Bool
-  range = pairFault (view xs .nodes) s r || costFault c
+  abbrev range : ℕ
+  range = changeNumber (view xs) s r c
 
-  arc-is : placed (view xs) next (Change (Set s r c)) ≡ judged (firstOf (cond range 3 0) (firstOf (orderNumber next (arcRank s r)) 0)) (changed (view xs) s r c) (arcRank s r)
-  unfolding placed arcNumber changeNumber
+  abbrev arc : Net
+  arc = changed (view xs) s r c
+
+  arc-is : placed (view xs) next (Change (Set s r c)) ≡ judged (firstOf range (firstOf (orderNumber next (arcRank s r)) 0)) arc (arcRank s r)
+  unfolding placed arcNumber
   arc-is = rw (first-none (orderNumber next (arcRank s r)))
 
-  arc-range : range ≡ true → Places (view xs) next (Change (Set s r c)) (Stopped 3) (view xs)
-  arc-range h = stops (view xs) next (Change (Set s r c)) 3 (view xs) (arc-is ∙ judged-range range _ (changed (view xs) s r c) (arcRank s r) h)
+  arc-range : range ≡ 3 → Places (view xs) next (Change (Set s r c)) (Stopped 3) (view xs)
+  arc-range h = stops (view xs) next (Change (Set s r c)) 3 (view xs) (arc-is ∙ judged-range range _ arc (arcRank s r) h)
 
   pub arc-pair : pairFault n s r ≡ true → Places (view xs) next (Change (Set s r c)) (Stopped 3) (view xs)
-  arc-pair e = arc-range (rw (← is, e))
+  arc-pair e = arc-range (change-bad-pair (view xs) s r c (rw (← is) e))
 
   module _ (e : pairFault n s r ≡ false) where
     pub arc-cost : maxCost < c → Places (view xs) next (Change (Set s r c)) (Stopped 3) (view xs)
-    unfolding costFault
-    arc-cost h = arc-range (rw (← is, e, lt-ltb maxCost c h))
+    arc-cost h = arc-range (change-bad-cost (view xs) s r c (cost-bad c h))
 
     module _ (h : c ≤ maxCost) where
-      free : range ≡ false
-      free = rw (← is, e, cost-free c h)
+      free : range ≡ 0
+      free = change-free (view xs) s r c (rw (← is) e) (cost-free c h)
 
       pub arc-order : arcRank s r < next → Places (view xs) next (Change (Set s r c)) (Stopped 4) (view xs)
-      arc-order o = stops (view xs) next (Change (Set s r c)) 4 (view xs) (arc-is ∙ judged-order range next 0 (changed (view xs) s r c) (arcRank s r) free o)
+      arc-order o = stops (view xs) next (Change (Set s r c)) 4 (view xs) (arc-is ∙ judged-order range next 0 arc (arcRank s r) free o)
 
       pub arc-placed : next ≤ arcRank s r → (k : ℕ) (ys : List ℕ) (t : Next) → Leaves (changeOf (view xs) s r c) k xs ys → t ≡ nextOf k (arcRank s r)
           → Places (view xs) next (Change (Set s r c)) t (view ys)
-      unfolding changeOf changeNumber
       arc-placed o k ys t l q =
-          goes (view xs) next (Change (Set s r c)) (changeNumber (view xs) s r c) (changed (view xs) s r c) (arcRank s r) k xs ys t
-          (arc-is ∙ judged-form range next 0 (changed (view xs) s r c) (arcRank s r) free o ∙ ap (λ b. judged (cond b 3 0) (changed (view xs) s r c) (arcRank s r)) (sym free)) l q
+          goes (view xs) next (Change (Set s r c)) range arc (arcRank s r) k xs ys t
+          (arc-is ∙ judged-form range next 0 arc (arcRank s r) free o ∙ ap (λ b. judged b arc (arcRank s r)) (sym free)) (change-outcome (view xs) s r c) l q
 
 -- ---- a row
 
@@ -144,22 +146,20 @@ module _ (xs : List ℕ) (n next y d p l : ℕ) (is : n ≡ view xs .nodes) wher
   row-is = refl
 
   pub row-range : n ≤ y → Places (view xs) next (Row y d p l) (Stopped 3) (view xs)
-  unfolding nodeFault
-  row-range h = stops (view xs) next (Row y d p l) 3 (view xs) (row-is ∙ judged-range (nodeFault (view xs .nodes) y) _ row (rowRank y) (rw (← is, le-leb n y h)))
+  row-range h = stops (view xs) next (Row y d p l) 3 (view xs) (row-is ∙ judged-range _ _ row (rowRank y) (rw (← is, node-bad n y h)))
 
   module _ (h : y < n) where
-    node : nodeFault (view xs .nodes) y ≡ false
+    node : _≡_ {A = ℕ} (cond (nodeFault (view xs .nodes) y) 3 0) 0
     node = rw (← is, node-free n y h)
 
     pub row-order : rowRank y < next → Places (view xs) next (Row y d p l) (Stopped 4) (view xs)
-    row-order o = stops (view xs) next (Row y d p l) 4 (view xs) (row-is ∙ judged-order (nodeFault (view xs .nodes) y) next _ row (rowRank y) node o)
+    row-order o = stops (view xs) next (Row y d p l) 4 (view xs) (row-is ∙ judged-order _ next _ row (rowRank y) node o)
 
     pub row-placed : next ≤ rowRank y → (k : ℕ) (ys : List ℕ) (t : Next) → Leaves (placeRowOf (view xs) y d p l) k xs ys → t ≡ nextOf k (rowRank y)
         → Places (view xs) next (Row y d p l) t (view ys)
-    unfolding placeRowOf
     row-placed o k ys t v q =
         goes (view xs) next (Row y d p l) (placeRowNumber (view xs) y d p l) row (rowRank y) k xs ys t
-        (row-is ∙ judged-form (nodeFault (view xs .nodes) y) next (placeRowNumber (view xs) y d p l) row (rowRank y) node o) v q
+        (row-is ∙ judged-form _ next (placeRowNumber (view xs) y d p l) row (rowRank y) node o) (place-row-outcome (view xs) y d p l) v q
 
 -- ---- a report
 
@@ -173,18 +173,17 @@ module _ (xs : List ℕ) (n next s r d l : ℕ) (is : n ≡ view xs .nodes) wher
   report-is = refl
 
   pub report-range : pairFault n s r ≡ true → Places (view xs) next (Report s r d l) (Stopped 3) (view xs)
-  report-range h = stops (view xs) next (Report s r d l) 3 (view xs) (report-is ∙ judged-range (pairFault (view xs .nodes) s r) _ report (reportRank s r) (rw (← is, h)))
+  report-range h = stops (view xs) next (Report s r d l) 3 (view xs) (report-is ∙ judged-range _ _ report (reportRank s r) (rw (← is, h)))
 
   module _ (h : pairFault n s r ≡ false) where
-    pair : pairFault (view xs .nodes) s r ≡ false
+    pair : _≡_ {A = ℕ} (cond (pairFault (view xs .nodes) s r) 3 0) 0
     pair = rw (← is, h)
 
     pub report-order : reportRank s r < next → Places (view xs) next (Report s r d l) (Stopped 4) (view xs)
-    report-order o = stops (view xs) next (Report s r d l) 4 (view xs) (report-is ∙ judged-order (pairFault (view xs .nodes) s r) next _ report (reportRank s r) pair o)
+    report-order o = stops (view xs) next (Report s r d l) 4 (view xs) (report-is ∙ judged-order _ next _ report (reportRank s r) pair o)
 
     pub report-placed : next ≤ reportRank s r → (k : ℕ) (ys : List ℕ) (t : Next) → Leaves (placeReportOf (view xs) s r d l) k xs ys → t ≡ nextOf k (reportRank s r)
         → Places (view xs) next (Report s r d l) t (view ys)
-    unfolding placeReportOf
     report-placed o k ys t v q =
         goes (view xs) next (Report s r d l) (placeReportNumber (view xs) s r d l) report (reportRank s r) k xs ys t
-        (report-is ∙ judged-form (pairFault (view xs .nodes) s r) next (placeReportNumber (view xs) s r d l) report (reportRank s r) pair o) v q
+        (report-is ∙ judged-form _ next (placeReportNumber (view xs) s r d l) report (reportRank s r) pair o) (place-report-outcome (view xs) s r d l) v q

@@ -10,8 +10,9 @@ use native.Mathlib.Numerals.{add-one}
 use lib.ListN.{length, getD, take, drop, length-drop, drop-of-length-le}
 use lib.Seq.{drop-cons}
 use borrow.Author.Tests.{lt-ltb, le-ltb, eq-eqb, ne-eqb}
-use Rattle.network.specs.Faults.{gradeFault}
+use Rattle.network.specs.Faults.{maxGrade}
 use Rattle.network.specs.Change.{gradeCost}
+use Rattle.network.proofs.FaultLaws.{grade-free, grade-bad}
 use Rattle.records.specs.Records.{Section, bodyLength, bodyOf, arcChange, gradeChange, eventOf, allowed, refusedRecord, bodied, recordOf}
 use Rattle.records.specs.Numbers.{num8, num16, num32}
 use Rattle.records.proofs.Reading.{never-allowed}
@@ -51,18 +52,18 @@ pub change-read : {v : ArcChange} {s s′ r r′ c c′ : ℕ} → v ≡ arcChan
 change-read e p q h = ap Change (e ∙ (λ j. arcChange (p j) (q j) (h j)))
 
 -- a grade above 15 is refused, another changes to its cost
-pub grade-refused : (at s r g : ℕ) → 15 < g → Refusal 3 at ≡ gradeChange at s r g
-unfolding gradeChange gradeFault
-grade-refused at s r g h = rw (lt-ltb 15 g h)
+pub grade-refused : (at s r g : ℕ) → maxGrade < g → Refusal 3 at ≡ gradeChange at s r g
+unfolding gradeChange
+grade-refused at s r g h = rw (grade-bad g h)
 
-grade-changes : (at s r g : ℕ) → g ≤ 15 → Change (arcChange s r (gradeCost g)) ≡ gradeChange at s r g
-unfolding gradeChange gradeFault
-grade-changes at s r g h = rw (le-ltb 15 g h)
+grade-changes : (at s r g : ℕ) → g ≤ maxGrade → Change (arcChange s r (gradeCost g)) ≡ gradeChange at s r g
+unfolding gradeChange
+grade-changes at s r g h = rw (grade-free g h)
 
 -- so does a change made from a grade that was read
-pub grade-read : (at : ℕ) {v : ArcChange} {s s′ r r′ g g′ c : ℕ} → g ≡ g′ → g ≤ 15 → v ≡ arcChange s r c → s ≡ s′ → r ≡ r′ → c ≡ gradeCost g
+pub grade-read : (at : ℕ) {v : ArcChange} {s s′ r r′ g g′ c : ℕ} → g ≡ g′ → g ≤ maxGrade → v ≡ arcChange s r c → s ≡ s′ → r ≡ r′ → c ≡ gradeCost g
     → Change v ≡ gradeChange at s′ r′ g′
-grade-read at d k e p q h = change-read e p q (h ∙ ap gradeCost d) ∙ grade-changes at _ _ _ (subst (λ x. x ≤ 15) d k)
+grade-read at d k e p q h = change-read e p q (h ∙ ap gradeCost d) ∙ grade-changes at _ _ _ (subst (λ x. x ≤ maxGrade) d k)
 
 -- ---- the table of kinds
 

@@ -13,9 +13,9 @@ use borrow.Author.Tests.{eq-eqb, ne-eqb}
 use Rattle.ancestors.specs.Ancestors.{own}
 use Rattle.ancestors.proofs.Cases.{eq-or-ne}
 use Rattle.network.specs.Faults.{nodeFault, pairFault}
-use Rattle.network.specs.Network.{Row, none, root, Net, Outcome, Within, freshNet, freshNumber}
+use Rattle.network.specs.Network.{Row, none, root, Net, Within, freshNet, freshNumber}
 use Rattle.network.proofs.Accepting.{fresh-free}
-use Rattle.network.proofs.Effects.{accepted-net, fresh-outcome, FreshEffect, fresh-effect}
+use Rattle.network.proofs.Effects.{net-accepted, fresh-outcome, FreshEffect, fresh-effect}
 use Rattle.network.proofs.Keeping.{fresh-within}
 use Rattle.network.proofs.Limits.{within-size}
 use Rattle.records.specs.Numbers.{Bytes, be8}
@@ -218,8 +218,7 @@ module _ (x : Net) (wx : Within x) (rest : List ℕ) where
 
 -- it is within limits
 pub fresh-net : (n o : ℕ) → freshNumber n o ≡ 0 → Within (freshNet n o)
-fresh-net n o e =
-    subst Within (ap (λ (c : Outcome). c .net) (fresh-outcome n o) ∙ accepted-net (freshNumber n o) (freshNet n o) (freshNet 1 0) e) (fresh-within n o)
+fresh-net n o e = subst Within (net-accepted _ _ _ (fresh-outcome n o) e) (fresh-within n o)
 
 -- a row without a route, and the origin's, have no bytes
 no-bytes : (y : ℕ) (v : Row) (l : ℕ) → (v ≡ none) ⊎ (v ≡ root l) → rowBytes y v ≡ []

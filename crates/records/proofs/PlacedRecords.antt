@@ -11,11 +11,11 @@ use lib.ListN.{length}
 use borrow.Author.Tests.{eq-eqb, ne-eqb, ltb-true, ltb-false}
 use Rattle.ancestors.proofs.Cases.{eq-or-ne}
 use Rattle.network.specs.Faults.{nodeFault, pairFault}
-use Rattle.network.specs.Network.{Row, via, Report, empty, told, Net, Outcome, Within, withRow, withHeld}
+use Rattle.network.specs.Network.{Row, via, Report, empty, told, Net, Within, withRow, withHeld}
 use Rattle.network.specs.Placing.{placeRowNumber, placeReportNumber}
 use Rattle.network.specs.Change.{changed, changeNumber}
 use Rattle.network.proofs.Accepting.{change-accepted, place-row-accepted, place-report-accepted}
-use Rattle.network.proofs.Effects.{accepted-net, change-outcome, place-row-outcome, place-report-outcome, SamePair, same-pair, change-effect, place-row-effect, place-report-effect}
+use Rattle.network.proofs.Effects.{net-accepted, change-outcome, place-row-outcome, place-report-outcome, SamePair, same-pair, change-effect, place-row-effect, place-report-effect}
 use Rattle.network.proofs.FaultLaws.{node-says, pair-says}
 use Rattle.network.proofs.Keeping.{change-within, place-row-within, place-report-within}
 use Rattle.network.proofs.Limits.{within-size, within-report}
@@ -155,7 +155,7 @@ arc-placed x w s r c e n z =
           (λ _. held none ((i - 1056) / 32) ((i - 1056) % 32) (same-pair ((i - 1056) / 32) ((i - 1056) % 32) s r));
       nodes = f .nodes;
       origin = f .origin;
-      within = subst Within (ap (λ (o : Outcome). o .net) (change-outcome x s r c) ∙ accepted-net (changeNumber x s r c) (changed x s r c) x e) (change-within x w s r c);
+      within = subst Within (net-accepted _ _ _ (change-outcome x s r c) e) (change-within x w s r c);
     }
   where
     held : x .cost s r ≡ 0 → (a b : ℕ) → SamePair a b s r ⊎ (SamePair a b s r → ⊥) → changed x s r c .held a b ≡ x .held a b
@@ -178,7 +178,7 @@ row-placed x w y d p l e =
           (λ _. ap (λ (g : ℕ → ℕ → Report). g ((i - 1056) / 32) ((i - 1056) % 32)) (f .held));
       nodes = f .nodes;
       origin = f .origin;
-      within = subst Within (ap (λ (o : Outcome). o .net) (place-row-outcome x y d p l) ∙ accepted-net (placeRowNumber x y d p l) z x e) (place-row-within x w y d p l);
+      within = subst Within (net-accepted _ _ _ (place-row-outcome x y d p l) e) (place-row-within x w y d p l);
     }
 
 pub report-placed : (x : Net) → Within x → (s r d l : ℕ) → placeReportNumber x s r d l ≡ 0 →
@@ -197,5 +197,5 @@ report-placed x w s r d l e =
           (λ a. f .held-else ((i - 1056) / 32) ((i - 1056) % 32) (other-pair (i - 1056) s r (λ q. n (omega arith))));
       nodes = f .nodes;
       origin = f .origin;
-      within = subst Within (ap (λ (o : Outcome). o .net) (place-report-outcome x s r d l) ∙ accepted-net (placeReportNumber x s r d l) z x e) (place-report-within x w s r d l);
+      within = subst Within (net-accepted _ _ _ (place-report-outcome x s r d l) e) (place-report-within x w s r d l);
     }

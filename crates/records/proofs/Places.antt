@@ -10,9 +10,7 @@ use lib.ListN.{length, drop, length-drop}
 use Rattle.ancestors.proofs.Cases.{eq-or-ne, cond-by}
 use Rattle.network.specs.Faults.{nodeFault, pairFault}
 use Rattle.network.specs.Network.{Net, freshNet, freshNumber}
-use Rattle.network.specs.Change.{changed, changeNumber, changeOf}
-use Rattle.network.specs.Round.{marked, round, roundNumber, roundOf, everyArc, fullRoundOf}
-use Rattle.network.proofs.Effects.{outcome-number}
+use Rattle.network.proofs.Effects.{outcome-number, number-of, change-outcome, round-outcome, full-round-outcome}
 use Rattle.network.proofs.Numbers.{cond-most, fresh-most, change-most, place-row-most, place-report-most, round-most}
 use Rattle.records.specs.Numbers.{words}
 use Rattle.records.specs.Records.{atStart, inImage, asEvent, bodyOf, recordOf}
@@ -109,11 +107,11 @@ open-small bs = go (recordOf atStart 0 bs) (recordOf atStart 0 bs .event) (lengt
 
 -- the number of an event
 done-most : (x : Net) (b : List ℕ) (at : ℕ) (bs : List ℕ) (e : Event) → recordOf asEvent at bs .event ≡ e → eventDone x b e .number ≤ 7
-unfolding eventDone changeOf roundOf fullRoundOf
-done-most x b at bs (Change (Set s r c)) q = omega (arith, outcome-number (changeNumber x s r c) (changed x s r c) x, change-most x s r c)
-done-most x b at bs (Change (Removed s r)) q = omega (arith, outcome-number (changeNumber x s r 0) (changed x s r 0) x, change-most x s r 0)
-done-most x b at bs Round q = omega (arith, outcome-number (roundNumber x (words 32 b)) (round (marked (words 32 b)) x) x, round-most x (words 32 b))
-done-most x b at bs FullRound q = omega (arith, outcome-number 0 (round (everyArc x) x) x)
+unfolding eventDone
+done-most x b at bs (Change (Set s r c)) q = omega (arith, number-of _ _ _ (change-outcome x s r c), change-most x s r c)
+done-most x b at bs (Change (Removed s r)) q = omega (arith, number-of _ _ _ (change-outcome x s r 0), change-most x s r 0)
+done-most x b at bs Round q = omega (arith, number-of _ _ _ (round-outcome x (words 32 b)), round-most x (words 32 b))
+done-most x b at bs FullRound q = omega (arith, number-of _ _ _ (full-round-outcome x))
 done-most x b at bs (Refusal e p) q = omega (arith, outcome-number e x x, expected asEvent at bs (Refusal e p) q .2)
 done-most x b at bs End q = absurd (expected asEvent at bs End q)
 done-most x b at bs (Header n o) q = absurd (expected asEvent at bs (Header n o) q)

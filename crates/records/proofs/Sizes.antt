@@ -1,4 +1,4 @@
--- Lengths: of each record, and of an image at most 16,217 bytes.
+-- Lengths: of each record, and of an image at most `maxImage`, which is 16,217 bytes.
 -- Assumes nothing.
 use mathlib.Core.Path.{_≡_, refl, sym, ap, _∙_}
 use mathlib.Core.Bool.{Bool, true, false, cond}
@@ -10,13 +10,13 @@ use lib.Dec.{eqb}
 use lib.ListN.{length, length-append}
 use Rattle.ancestors.specs.Ancestors.{own}
 use Rattle.ancestors.proofs.Cases.{bool-cases}
-use Rattle.network.specs.Faults.{pairFault, nodeFault}
+use Rattle.network.specs.Faults.{maxNodes, pairFault, nodeFault}
 use Rattle.network.specs.Network.{Row, none, root, via, Report, empty, told, Net, Within}
 use Rattle.network.proofs.FaultLaws.{pair-says}
 use Rattle.network.proofs.Limits.{within-size}
 use Rattle.records.specs.Numbers.{be8, be16, be32}
-use Rattle.records.specs.Records.{endRecord, headerRecord, arcRecord, rowRecord, reportRecord}
-use Rattle.records.specs.Image.{each, arcBytes, rowBytes, reportBytes, byNode, byPair, image}
+use Rattle.records.specs.Records.{bodyLength, endRecord, headerRecord, arcRecord, rowRecord, reportRecord}
+use Rattle.records.specs.Image.{each, arcBytes, rowBytes, reportBytes, byNode, byPair, image, recordLength, maxPairs, fullImage, maxImage}
 use Rattle.records.proofs.Each.{each-split, each-most}
 
 -- ---- records
@@ -43,22 +43,22 @@ report-long s r d l = refl
 
 -- ---- what the parts of an image have at most
 
-arc-most : (s r c : ℕ) → length (arcBytes s r c) ≤ 5
-unfolding arcBytes
+arc-most : (s r c : ℕ) → length (arcBytes s r c) ≤ recordLength 2
+unfolding arcBytes recordLength bodyLength
 arc-most s r c = go (eqb c 0)
   where
-    go : (b : Bool) → length (cond b [] (arcRecord s r c)) ≤ 5
+    go : (b : Bool) → length (cond b [] (arcRecord s r c)) ≤ recordLength 2
     go true = omega arith
     go false = omega (arith, arc-long s r c)
 
-row-most : (y : ℕ) (w : Row) → length (rowBytes y w) ≤ 11
-unfolding rowBytes
+row-most : (y : ℕ) (w : Row) → length (rowBytes y w) ≤ recordLength 3
+unfolding rowBytes recordLength bodyLength
 row-most y none = omega arith
 row-most y (root l) = omega arith
 row-most y (via d p l) = omega (arith, row-long y d p l)
 
-report-most : (s r : ℕ) (h : Report) → length (reportBytes s r h) ≤ 11
-unfolding reportBytes
+report-most : (s r : ℕ) (h : Report) → length (reportBytes s r h) ≤ recordLength 4
+unfolding reportBytes recordLength bodyLength
 report-most s r empty = omega arith
 report-most s r (told d l) = omega (arith, report-long s r d l)
 
@@ -89,11 +89,9 @@ each-gap f m d o h e b =
     parts m a b c h = rw (← h) (omega arith)
 
 -- a node is not paired with itself
-pairs-most : (x : Net) (f : ℕ → ℕ → List ℕ) (m : ℕ) → ((s r : ℕ) → length (f s r) ≤ m) → length (byPair x f) ≤ m * 31 * 32
+pairs-most : (x : Net) (f : ℕ → ℕ → List ℕ) (m : ℕ) → ((s r : ℕ) → length (f s r) ≤ m) → length (byPair x f) ≤ maxPairs * m
 unfolding byPair
-pairs-most x f m h =
-    each-most (λ s. each (g s) 0 32) (m * 31) 0 32
-    (λ s _ b. each-gap (g s) m 32 s (omega arith) (self s (bool-cases (pairFault (x .nodes) s s))) (λ r. cond-most m (pairFault (x .nodes) s r) (f s r) (h s r)))
+pairs-most x f m h = omega (arith, each-most (λ s. each (g s) 0 maxNodes) (m * (maxNodes - 1)) 0 maxNodes (λ s _ b. line s b))
   where
     g : ℕ → ℕ → List ℕ
     g s r = cond (pairFault (x .nodes) s r) [] (f s r)
@@ -102,47 +100,67 @@ pairs-most x f m h =
     self s (inl e) = rw e
     self s (inr e) = absurd (pair-says (x .nodes) s s e .2 refl)
 
--- the origin's row is not written
-rows-most : (x : Net) (l : ℕ) → x .origin < 32 → x .row (x .origin) ≡ root l → length (byNode x (λ y. rowBytes y (x .row y))) ≤ 341
-unfolding byNode rowBytes
-rows-most x l h e =
-    each-gap (λ y. cond (nodeFault (x .nodes) y) [] (rowBytes y (x .row y))) 11 32 (x .origin) h
-    (none-there (nodeFault (x .nodes) (x .origin)) (ap (rowBytes (x .origin)) e))
-    (λ y. cond-most 11 (nodeFault (x .nodes) y) (rowBytes y (x .row y)) (row-most y (x .row y)))
-  where
-    none-there : (b : Bool) → rowBytes (x .origin) (x .row (x .origin)) ≡ [] → cond b [] (rowBytes (x .origin) (x .row (x .origin))) ≡ []
-    none-there true e = refl
-    none-there false e = e
+    line : (s : ℕ) → s < maxNodes → length (each (g s) 0 maxNodes) ≤ m * (maxNodes - 1)
+    line s b = each-gap (g s) m maxNodes s b (self s (bool-cases (pairFault (x .nodes) s s))) (λ r. cond-most m (pairFault (x .nodes) s r) (f s r) (h s r))
 
--- an image of whose rows m bytes are written at most
-image-rows : (x : Net) (m : ℕ) → length (byNode x (λ y. rowBytes y (x .row y))) ≤ m → length (image x) ≤ 15876 + m
-unfolding image
-image-rows x m f =
-    let arcs = byPair x (λ s r. arcBytes s r (x .cost s r)) in
-    let rows = byNode x (λ y. rowBytes y (x .row y)) in
-    let reports = byPair x (λ s r. reportBytes s r (x .held s r)) in
-    let a = length-append (headerRecord (x .nodes) (x .origin)) (arcs ++ (rows ++ (reports ++ endRecord))) in
-    let b = length-append arcs (rows ++ (reports ++ endRecord)) in
-    let c = length-append rows (reports ++ endRecord) in
-    let d = length-append reports endRecord in
-    let e = pairs-most x (λ s r. arcBytes s r (x .cost s r)) 5 (λ s r. arc-most s r (x .cost s r)) in
-    let g = pairs-most x (λ s r. reportBytes s r (x .held s r)) 11 (λ s r. report-most s r (x .held s r)) in
-    omega (arith, a, b, c, d, e, f, g, header-long (x .nodes) (x .origin), end-long)
+module _ (x : Net) where
+  -- the rows written, and that of y
+  abbrev rows : List ℕ
+  rows = byNode x (λ y. rowBytes y (x .row y))
 
--- of any network at all
-pub image-any : (x : Net) → length (image x) ≤ 16228
-unfolding byNode
-image-any x =
-    image-rows x 352
-    (each-most (λ y. cond (nodeFault (x .nodes) y) [] (rowBytes y (x .row y))) 11 0 32
-    (λ y _ _. cond-most 11 (nodeFault (x .nodes) y) (rowBytes y (x .row y)) (row-most y (x .row y))))
+  abbrev row-of : ℕ → List ℕ
+  row-of y = cond (nodeFault (x .nodes) y) [] (rowBytes y (x .row y))
 
--- an image is at most 16,217 bytes if the origin is one of 32 nodes and has the origin's row
-pub image-bound : (x : Net) (l : ℕ) → x .origin < 32 → x .row (x .origin) ≡ root l → length (image x) ≤ 16217
-image-bound x l h o = image-rows x 341 (rows-most x l h o)
+  row-of-most : (y : ℕ) → length (row-of y) ≤ recordLength 3
+  row-of-most y = cond-most (recordLength 3) (nodeFault (x .nodes) y) (rowBytes y (x .row y)) (row-most y (x .row y))
 
--- as in every network within limits
-pub image-most : (x : Net) → Within x → length (image x) ≤ 16217
-image-most x w =
-    let size = within-size x w in
-    image-bound x (own (x .origin)) (omega (arith, size .1, size .2)) (w .origin-row)
+  -- the origin's is not written
+  rows-most : (l : ℕ) → x .origin < maxNodes → x .row (x .origin) ≡ root l → length rows ≤ recordLength 3 * (maxNodes - 1)
+  unfolding byNode rowBytes
+  rows-most l h e =
+      each-gap row-of (recordLength 3) maxNodes (x .origin) h
+      (none-there (nodeFault (x .nodes) (x .origin)) (ap (rowBytes (x .origin)) e)) row-of-most
+    where
+      none-there : (b : Bool) → rowBytes (x .origin) (x .row (x .origin)) ≡ [] → cond b [] (rowBytes (x .origin) (x .row (x .origin))) ≡ []
+      none-there true e = refl
+      none-there false e = e
+
+  -- an image of not more than k rows
+  image-rows : (k : ℕ) → length rows ≤ recordLength 3 * k → length (image x) ≤ fullImage k
+  unfolding image fullImage recordLength bodyLength
+  image-rows k f =
+      let arcs = byPair x (λ s r. arcBytes s r (x .cost s r)) in
+      let reports = byPair x (λ s r. reportBytes s r (x .held s r)) in
+      let a = length-append (headerRecord (x .nodes) (x .origin)) (arcs ++ (rows ++ (reports ++ endRecord))) in
+      let b = length-append arcs (rows ++ (reports ++ endRecord)) in
+      let c = length-append rows (reports ++ endRecord) in
+      let d = length-append reports endRecord in
+      let e = pairs-most x (λ s r. arcBytes s r (x .cost s r)) (recordLength 2) (λ s r. arc-most s r (x .cost s r)) in
+      let g = pairs-most x (λ s r. reportBytes s r (x .held s r)) (recordLength 4) (λ s r. report-most s r (x .held s r)) in
+      omega (arith, a, b, c, d, e, f, g, header-long (x .nodes) (x .origin), end-long)
+
+  -- of any network at all
+  pub image-any : length (image x) ≤ fullImage maxNodes
+  unfolding byNode
+  image-any = image-rows maxNodes (each-most row-of (recordLength 3) 0 maxNodes (λ y _ _. row-of-most y))
+
+  -- of one with the origin among the most nodes and with the origin's row
+  pub image-bound : (l : ℕ) → x .origin < maxNodes → x .row (x .origin) ≡ root l → length (image x) ≤ maxImage
+  unfolding maxImage
+  image-bound l h o = image-rows (maxNodes - 1) (rows-most l h o)
+
+  -- as in every network within limits
+  pub image-most : Within x → length (image x) ≤ maxImage
+  image-most w =
+      let size = within-size x w in
+      image-bound (own (x .origin)) (omega (arith, size .1, size .2)) (w .origin-row)
+
+-- ---- the bounds, computed
+
+pub largest-image : maxImage ≡ 16217
+unfolding maxImage fullImage recordLength bodyLength
+largest-image = refl
+
+pub largest-any : fullImage maxNodes ≡ 16228
+unfolding fullImage recordLength bodyLength
+largest-any = refl

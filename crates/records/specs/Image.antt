@@ -2,13 +2,13 @@
 -- Assumes nothing.
 use mathlib.Core.Bool.{cond}
 use mathlib.Core.List.{List, [], _++_}
-use Prim.Native.Nat.{ℕ, zero, suc}
+use Prim.Native.Nat.{ℕ, zero, suc, _+_, _*_, _-_}
 use lib.Dec.{eqb, ltb}
 use lib.ListN.{length}
 use Rattle.network.specs.Faults.{maxNodes, nodeFault, pairFault}
 use Rattle.network.specs.Network.{Row, none, root, via, Report, empty, told, Net}
 use Rattle.network.specs.Writing.{Writing, writing}
-use Rattle.records.specs.Records.{endRecord, headerRecord, arcRecord, rowRecord, reportRecord}
+use Rattle.records.specs.Records.{bodyLength, endRecord, headerRecord, arcRecord, rowRecord, reportRecord}
 
 -- the bytes f k, f (k + 1) and on, of d numbers, one after another
 unfoldable pub each : (ℕ → List ℕ) → ℕ → ℕ → List ℕ
@@ -45,6 +45,30 @@ image x =
     (byPair x (λ s r. arcBytes s r (x .cost s r)) ++
     (byNode x (λ y. rowBytes y (x .row y)) ++
     (byPair x (λ s r. reportBytes s r (x .held s r)) ++ endRecord)))
+
+-- ---- the largest image
+
+-- the bytes of a record of a kind: its kind byte and its body
+unfoldable pub recordLength : ℕ → ℕ
+recordLength kind = suc (bodyLength kind)
+
+-- how many ordered pairs of different nodes the most nodes have
+abbrev pub maxPairs : ℕ
+maxPairs = maxNodes * (maxNodes - 1)
+
+-- the bytes of an image of the header, an arc and a report for each pair, so many rows, and the end
+unfoldable pub fullImage : ℕ → ℕ
+fullImage rows =
+    recordLength 1 +
+    (maxPairs * recordLength 2 +
+    (rows * recordLength 3 +
+    (maxPairs * recordLength 4 + recordLength 0)))
+
+-- the most bytes of an image: a row for each node but the origin
+unfoldable pub maxImage : ℕ
+maxImage = fullImage (maxNodes - 1)
+
+-- ---- image writing
 
 -- 6 for an output shorter than the image
 unfoldable pub imageNumber : Net → ℕ → ℕ

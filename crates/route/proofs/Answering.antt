@@ -1,50 +1,64 @@
 -- Laws of the route call: what a row that is read says of the walk, the bytes stored, and each answer.
 -- Assumes nothing.
 use mathlib.Core.Path.{_≡_, refl, sym, ap, ap₂, subst, _∙_}
-use mathlib.Core.Bool.{true, false, cond}
+use mathlib.Core.Bool.{true, false}
 use mathlib.Core.Logic.{_≢_, ⊎-elim}
 use mathlib.Core.List.{List, _∷_, _++_}
 use Prim.Native.Nat.{ℕ, suc, _+_, _-_, _<_, _≤_}
 use native.Mathlib.Omega.{arith}
 use native.Mathlib.Nat.{zero-add}
 use native.Mathlib.Numerals.{add-one}
-use lib.Dec.{eqb}
 use lib.ListN.{length, set, take, drop, getD, length-drop, length-set}
 use lib.Seq.{take-all, take-length, paste-suc, length-paste, drop-length, drop-cons, drop-set-lt, getD-set-same}
-use borrow.Author.Tests.{lt-ltb, le-ltb, ne-eqb}
+use borrow.Author.Tests.{ne-eqb}
 use Rattle.ancestors.specs.Ancestors.{has, put}
 use Rattle.ancestors.proofs.Cases.{bool-cases}
 use Rattle.network.specs.Faults.{maxNodes, nodeFault}
 use Rattle.network.specs.Network.{none, root, via, Net}
-use Rattle.network.specs.Route.{routeRow, Walked, broken, reached, walk, walkBack, unrouted, routeNodes, walkNumber, routeNumber, routeOf}
-use Rattle.network.specs.Writing.{writing, Writes}
+use Rattle.network.specs.Route.{routeRow, Walked, broken, reached, walk, walkBack, unrouted, routeNumber, routeOf}
+use Rattle.network.specs.Writing.{Writes}
+use Rattle.network.proofs.Accepting.{two-tests}
 use Rattle.network.proofs.FaultLaws.{node-says}
-use Rattle.network.proofs.Walking.{walk-again, walk-lost, walk-arrived, walk-onward, walk-spent}
-use Rattle.memory.specs.Answers.{RowAnswer, readRow}
+use Rattle.network.proofs.RouteLaws.{route-three, route-eight, route-nine, route-six, route-free, route-refused, route-written}
+use Rattle.network.proofs.Walking.{reads-none, reads-row, none-unrouted, root-routed, via-routed, walk-start, walk-again, walk-lost, walk-arrived, walk-onward, walk-spent}
+use Rattle.memory.specs.Answers.{readRow, rowMeans}
+use Rattle.memory.specs.declared.RowRead.{RowRead}
+use Rattle.memory.specs.declared.RowRead.the-variants as R
+use Rattle.memory.proofs.Laws.{said-refused, said-none, said-origin, said-route}
 use Rattle.route.specs.Inner.{startNumber, walkOf, Laid}
 
 -- ---- a row that is read
 
--- the number before the walk, of the row as it is read
-abbrev pub startOf : RowAnswer → ℕ
-startOf a = cond (eqb (a .number) 0) (cond (unrouted (a .row)) 8 0) 3
+module _ (x : Net) (y : ℕ) (r : RowRead) (said : rowMeans r ≡ readRow x y) where
+  -- the number before the walk
+  pub start-refused : r ≡ R.Refused → startNumber x y ≡ 3
+  unfolding startNumber
+  start-refused e = rw (said-refused x y r said e)
 
-module _ (x : Net) (y : ℕ) where
-  -- the walk reads the row that is read
-  pub row-read : routeRow x y ≡ readRow x y .row
-  unfolding readRow routeRow
-  row-read = ⊎-elim (λ f. rw f) (λ f. rw f) (bool-cases (nodeFault (x .nodes) y))
+  pub start-none : r ≡ R.NoRoute → startNumber x y ≡ 8
+  unfolding startNumber
+  start-none e = let a = said-none x y r said e in rw (a .0, none-unrouted (a .1))
 
-  -- what has a row is a node
-  pub node-read : readRow x y .number ≡ 0 → y < x .nodes
-  unfolding readRow
-  node-read e =
-      ⊎-elim (λ f. absurd (let z : _≡_ {A = ℕ} 3 0 = rw f at e in omega arith)) (λ f. node-says (x .nodes) y f) (bool-cases (nodeFault (x .nodes) y))
+  pub start-origin : {l k : ℕ} → r ≡ R.Origin l k → startNumber x y ≡ 0
+  unfolding startNumber
+  start-origin e = let a = said-origin x y r said e in rw (a .0, root-routed (a .1))
 
-  -- the numbers before the walk are those of the row read
-  pub start-read : startNumber x y ≡ startOf (readRow x y)
-  unfolding readRow startNumber unrouted
-  start-read = ⊎-elim (λ f. rw f) (λ f. rw f) (bool-cases (nodeFault (x .nodes) y))
+  pub start-route : {d p l k : ℕ} → r ≡ R.Route d p l k → startNumber x y ≡ 0
+  unfolding startNumber
+  start-route e = let a = said-route x y r said e in rw (a .0, via-routed (a .1))
+
+  -- the row that the walk reads; what has one is a node
+  pub lost-refused : r ≡ R.Refused → routeRow x y ≡ none
+  lost-refused e = reads-none x y (said-refused x y r said e)
+
+  pub lost-none : r ≡ R.NoRoute → routeRow x y ≡ none
+  lost-none e = let a = said-none x y r said e in reads-row x y (a .0) ∙ a .1
+
+  pub at-origin : {l k : ℕ} → r ≡ R.Origin l k → (y < x .nodes) × (routeRow x y ≡ root l)
+  at-origin e = let a = said-origin x y r said e in (node-says (x .nodes) y (a .0), reads-row x y (a .0) ∙ a .1)
+
+  pub at-relay : {d p l k : ℕ} → r ≡ R.Route d p l k → (y < x .nodes) × (routeRow x y ≡ via d p l)
+  at-relay e = let a = said-route x y r said e in (node-says (x .nodes) y (a .0), reads-row x y (a .0) ∙ a .1)
 
 -- ---- the walk, its route stored at the end of the bytes
 
@@ -56,8 +70,7 @@ stored bytes at y h =
 
 -- no node is stored yet
 pub start-walk : (x : Net) (y : ℕ) (bytes : List ℕ) → length bytes ≡ maxNodes → walkBack x y ≡ walk maxNodes x y 0 (drop maxNodes bytes)
-unfolding walkBack
-start-walk x y bytes size = ap (walk maxNodes x y 0) (sym (drop-length bytes) ∙ ap (λ k. drop k bytes) size)
+start-walk x y bytes size = walk-start x y ∙ ap (walk maxNodes x y 0) (sym (drop-length bytes) ∙ ap (λ k. drop k bytes) size)
 
 -- 0 nodes stand for a walk that does not reach the origin
 pub laid-broken : (w : Walked) (bytes : List ℕ) → w ≡ broken → Laid w bytes 0
@@ -116,59 +129,64 @@ module _ (bytes out : List ℕ) (room : length bytes ≤ length out) (i : ℕ) w
   copied-all e = rw (e, take-length)
 
 -- ---- the answers
+
+module _ (x : Net) (y : ℕ) where
+  -- the numbers before the walk come first
+  start-first : (room : ℕ) → startNumber x y ≢ 0 → routeNumber x y room ≡ startNumber x y
+  unfolding startNumber
+  start-first room h = ⊎-elim (λ f. route-three x y room f ∙ rw f) (λ f. node f) (bool-cases (nodeFault (x .nodes) y))
+    where
+      node : nodeFault (x .nodes) y ≡ false → routeNumber x y room ≡ startNumber x y
+      node f = ⊎-elim (λ u. route-eight x y room f u ∙ rw (f, u)) (λ (u : unrouted (x .row y) ≡ false). absurd (h (rw (f, u)))) (bool-cases (unrouted (x .row y)))
+
+  -- where they find nothing, y is a node with a route
+  start-passed : startNumber x y ≡ 0 → (nodeFault (x .nodes) y ≡ false) × (unrouted (x .row y) ≡ false)
+  unfolding startNumber
+  start-passed e = two-tests (nodeFault (x .nodes) y) (unrouted (x .row y)) 2 7 e
+
 module _ (x : Net) (y : ℕ) (out : List ℕ) where
   -- refused with the number k, nothing is written
   refused-as : (k : ℕ) → routeNumber x y (length out) ≡ k → k ≢ 0 → Writes (routeOf x y out) (record { number = k; length = 0 }) out
-  unfolding routeOf writing
-  refused-as k e h = rw (e, ne-eqb k 0 h) (record { number = refl; length = refl; output = refl })
-
-  -- the numbers before the walk come first
-  number-node : nodeFault (x .nodes) y ≡ false →
-      routeNumber x y (length out) ≡ cond (eqb (startNumber x y) 0) (walkNumber (length out) (walkBack x y)) (startNumber x y)
-  unfolding routeNumber startNumber
-  number-node f =
-      ⊎-elim (λ (u : unrouted (x .row y) ≡ true). rw (f, u)) (λ (u : unrouted (x .row y) ≡ false). rw (f, u)) (bool-cases (unrouted (x .row y)))
-
-  number-first : routeNumber x y (length out) ≡ cond (eqb (startNumber x y) 0) (walkNumber (length out) (walkBack x y)) (startNumber x y)
-  unfolding routeNumber startNumber
-  number-first = ⊎-elim (λ f. rw f) (λ f. number-node f) (bool-cases (nodeFault (x .nodes) y))
+  refused-as k e h = rw (route-refused x y out k e h) (record { number = refl; length = refl; output = refl })
 
   pub answer-start : (k : ℕ) → k ≡ startNumber x y → k ≢ 0 → Writes (routeOf x y out) (record { number = k; length = 0 }) out
-  answer-start k e h = refused-as k (number-first ∙ rw (← e, ne-eqb k 0 h)) h
+  answer-start k e h = refused-as k (start-first x y (length out) (λ z. h (e ∙ z)) ∙ sym e) h
 
   -- the walk left k nodes at the end of the bytes
   module _ (first : startNumber x y ≡ 0) (bytes : List ℕ) (k : ℕ) (laid : Laid (walkBack x y) bytes k) where
-    -- then comes the number of the walk
-    number-walk : (w : Walked) → walkBack x y ≡ w → routeNumber x y (length out) ≡ walkNumber (length out) w
-    number-walk w e = number-first ∙ rw (first, e)
-
     pub answer-nine : k ≡ 0 → Writes (routeOf x y out) (record { number = 9; length = 0 }) out
-    unfolding walkOf walkNumber
-    answer-nine z = refused-as 9 (number-walk broken (laid .walk ∙ rw z)) (λ e. omega arith)
+    unfolding walkOf
+    answer-nine z =
+        let p = start-passed x y first in
+        refused-as 9 (route-nine x y (length out) (p .0) (p .1) (laid .walk ∙ rw z)) (λ e. omega arith)
 
     module _ (some : k ≢ 0) (size : length bytes ≡ maxNodes) where
       -- the route is what was stored
-      reaches : walkBack x y ≡ reached (drop (maxNodes - k) bytes)
+      abbrev stretch : List ℕ
+      stretch = drop (maxNodes - k) bytes
+
+      reaches : walkBack x y ≡ reached stretch
       unfolding walkOf
       reaches = laid .walk ∙ rw (ne-eqb k 0 some)
 
-      route-length : length (drop (maxNodes - k) bytes) ≡ k
+      route-length : length stretch ≡ k
       route-length = omega (arith, length-drop (maxNodes - k) bytes, laid .fits)
 
-      part-all : take (maxNodes - (maxNodes - k)) (drop (maxNodes - k) bytes) ≡ drop (maxNodes - k) bytes
-      part-all = take-all (maxNodes - (maxNodes - k)) (drop (maxNodes - k) bytes) (omega (arith, route-length, laid .fits))
+      part-all : take (maxNodes - (maxNodes - k)) stretch ≡ stretch
+      part-all = take-all (maxNodes - (maxNodes - k)) stretch (omega (arith, route-length, laid .fits))
 
       pub answer-six : length out < k → Writes (routeOf x y out) (record { number = 6; length = 0 }) out
-      unfolding walkNumber
-      answer-six h = refused-as 6 (number-walk _ reaches ∙ rw (route-length, lt-ltb (length out) k h)) (λ e. omega arith)
+      answer-six h =
+          let p = start-passed x y first in
+          refused-as 6 (route-six x y (length out) (p .0) (p .1) stretch reaches (omega (arith, route-length))) (λ e. omega arith)
 
       -- the part of the bytes from the route's first node on
-      pub part-length : length (take (maxNodes - (maxNodes - k)) (drop (maxNodes - k) bytes)) ≡ k
+      pub part-length : length (take (maxNodes - (maxNodes - k)) stretch) ≡ k
       part-length = rw part-all route-length
 
-      pub answer-route : k ≤ length out → (part exit : List ℕ) → part ≡ take (maxNodes - (maxNodes - k)) (drop (maxNodes - k) bytes)
+      pub answer-route : k ≤ length out → (part exit : List ℕ) → part ≡ take (maxNodes - (maxNodes - k)) stretch
           → exit ≡ part ++ drop (length part) out → Writes (routeOf x y out) (record { number = 0; length = k }) exit
-      unfolding walkNumber routeOf writing routeNodes
       answer-route h part exit p e =
-          let n : routeNumber x y (length out) ≡ 0 = number-walk _ reaches ∙ rw (route-length, le-ltb (length out) k h) in
-          rw (n, reaches) (record { number = refl; length = sym route-length; output = rw (p, part-all) at e })
+          let q = start-passed x y first in
+          let n = route-free x y (length out) (q .0) (q .1) stretch reaches (omega (arith, route-length)) in
+          rw (route-written x y out stretch n reaches) (record { number = refl; length = sym route-length; output = rw (p, part-all) at e })

@@ -20,7 +20,8 @@ use Rattle.memory.specs.Layout.{words, rowOf, look, view, arcCosts, heldLabels,
 use Rattle.memory.specs.Inner.{Node}
 use Rattle.routing.specs.Inner.{Nodes, Primed, Hears, oneMark, rowMarks, wordMarks, arcRow, arcMarks}
 use Rattle.network.proofs.Effects.{same-net}
-use Rattle.memory.proofs.Store.{few, cost-beyond, read-held, read-relay, read-origin, store-report, store-origin}
+use Rattle.memory.proofs.Laws.{few, read-origin}
+use Rattle.memory.proofs.Store.{cost-beyond, read-held, read-relay, store-report, store-origin}
 
 -- ---- laws of hearing
 

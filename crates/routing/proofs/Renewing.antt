@@ -22,7 +22,8 @@ use Rattle.memory.specs.Layout.{words, rowOf, look, view, arcCosts, heldLabels,
 use Rattle.memory.specs.Inner.{Node}
 use Rattle.routing.specs.Inner.{Nodes}
 use Rattle.network.proofs.Effects.{same-net}
-use Rattle.memory.proofs.Store.{few, read-cost, read-held}
+use Rattle.memory.proofs.Laws.{few}
+use Rattle.memory.proofs.Store.{read-cost, read-held}
 
 -- ---- the words of one receiver
 

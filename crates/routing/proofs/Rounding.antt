@@ -12,10 +12,9 @@ use Rattle.network.specs.Round.{marked, everyArc, hear, renew, round, strayMark
 use Rattle.memory.specs.Layout.{view}
 use Rattle.routing.specs.Inner.{Hears, wordMarks, strayRows, idleRows}
 use Rattle.memory.specs.Answers.{Leaves}
-use Rattle.memory.proofs.Store.{few}
+use Rattle.memory.proofs.Laws.{few, leaves-refused, leaves-accepted}
 use Rattle.routing.proofs.Hearing.{hear-ext}
 use Rattle.routing.proofs.Marks.{stray-agrees, idle-agrees, marks-agree}
-use Rattle.memory.proofs.Leaving.{leaves-refused, leaves-accepted}
 
 module _ (xs ms : List ℕ) where
   pub round-cut : length ms ≢ 32 → Leaves (roundOf (view xs) ms) 1 xs xs

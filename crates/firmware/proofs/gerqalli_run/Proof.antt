@@ -2,6 +2,7 @@
 -- Assumes nothing.
 use borrow.Author.Needs.{needs}
 use native.Mathlib.Omega.{arith}
+use Rattle.records.proofs.Sizes.{largest-any}
 use Rattle.firmware.proofs.Calling.{answered, answers-long, place-short, answers-refused, answers-image-refused, length-small, answers-written}
 use Rattle.firmware.proofs.gerqalli_run.Statement.{statement}
 use Rattle.firmware.proofs.gerqalli_run.Tie as tie
@@ -49,6 +50,7 @@ mul-result c =
     let ran = good .before .before in
     omega (
       arith,
+      largest-any,
       length-small _ _ (ran .before .before .if1 .left) _ _ (ran .run-into .ensures) (good .if2 .left) _ _ (wrote .write-image .ensures),
     )
 

@@ -7,8 +7,8 @@ use mathlib.Core.Path.{refl, sym, ap}
 use lib.Dec.{leb}
 use denote.Ref.{now}
 use Rattle.memory.specs.Layout.{view}
-use Rattle.memory.proofs.Store.{read-origin}
-use Rattle.records.proofs.Sizes.{image-bound}
+use Rattle.memory.proofs.Laws.{read-origin}
+use Rattle.records.proofs.Sizes.{image-bound, largest-image}
 use Rattle.image.proofs.fits.Statement.{statement}
 use Rattle.image.proofs.fits.Tie as tie
 
@@ -20,7 +20,7 @@ returns c =
     let a = c .before .before .before .args in
     let x = view (now (a .net)) in
     let most = image-bound x _ (omega (arith, c .before .origin .ensures)) (read-origin (now (a .net)) (x .origin) refl) in
-    sym (le-leb _ (a .room) (omega arith))
+    sym (le-leb _ (a .room) (omega (arith, largest-image)))
 
 image-length-requires : tie.Need-image-length-requires
 image-length-requires c κs = search needs

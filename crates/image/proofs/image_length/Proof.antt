@@ -8,7 +8,7 @@ use lib.ListN.{length, length-append}
 use borrow.Author.Needs.{needs}
 use denote.Ref.{now}
 use Rattle.memory.specs.Layout.{view}
-use Rattle.memory.proofs.Store.{few}
+use Rattle.memory.proofs.Laws.{few}
 use Rattle.records.specs.Image.{each}
 use Rattle.image.specs.Lines.{line}
 use Rattle.image.proofs.Lengths.{each-zero, each-next}

@@ -6,7 +6,7 @@ use mathlib.Core.Path.{ap, _∙_}
 use lib.ListN.{length}
 use denote.Ref.{now}
 use Rattle.memory.specs.Layout.{view}
-use Rattle.memory.proofs.Wide.{wide-cost}
+use Rattle.memory.proofs.Laws.{wide-cost}
 use Rattle.records.proofs.Sizes.{arc-long}
 use Rattle.filling.proofs.Parts.{added-none, added-as}
 use Rattle.image.proofs.Reading.{arc-none, arc-some}

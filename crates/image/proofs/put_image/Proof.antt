@@ -5,7 +5,7 @@ use native.Mathlib.Omega.{arith}
 use mathlib.Core.Path.{refl}
 use denote.Ref.{now}
 use Rattle.memory.specs.Layout.{view}
-use Rattle.memory.proofs.Store.{few}
+use Rattle.memory.proofs.Laws.{few}
 use Rattle.records.proofs.Sizes.{end-long}
 use Rattle.filling.proofs.Parts.{wrote-as, wrote-on, wrote-then, added-within, added-room}
 use Rattle.image.proofs.Parting.{image-parts, image-long, header-end}

@@ -9,7 +9,7 @@ use Rattle.network.proofs.FaultLaws.{pair-says}
 use Rattle.memory.specs.Layout.{view}
 use Rattle.memory.specs.Answers.{readCost, costMeans}
 use Rattle.memory.proofs.Store.{pair-tested}
-use Rattle.memory.proofs.Wide.{wide-cost}
+use Rattle.memory.proofs.Laws.{wide-cost}
 use Rattle.memory.proofs.arc_cost.Statement.{statement}
 use Rattle.memory.proofs.arc_cost.Tie as tie
 

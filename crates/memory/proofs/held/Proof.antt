@@ -9,7 +9,7 @@ use Rattle.network.proofs.FaultLaws.{pair-says}
 use Rattle.memory.specs.Layout.{view}
 use Rattle.memory.specs.Answers.{readHeld, heldMeans}
 use Rattle.memory.proofs.Store.{pair-tested}
-use Rattle.memory.proofs.Wide.{wide-held}
+use Rattle.memory.proofs.Laws.{wide-held}
 use Rattle.memory.proofs.held.Statement.{statement}
 use Rattle.memory.proofs.held.Tie as tie
 

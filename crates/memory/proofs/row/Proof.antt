@@ -5,7 +5,8 @@ use native.Mathlib.Omega.{arith}
 use mathlib.Core.Path.{sym, _∙_}
 use denote.Ref.{now}
 use Rattle.memory.specs.Layout.{view}
-use Rattle.memory.proofs.Store.{few, read-first}
+use Rattle.memory.proofs.Laws.{few}
+use Rattle.memory.proofs.Store.{read-first}
 use Rattle.memory.proofs.Reading.{row-refused, row-origin, row-none, row-route}
 use Rattle.memory.proofs.row.Statement.{statement}
 use Rattle.memory.proofs.row.Tie as tie

@@ -3,7 +3,7 @@
 use borrow.Author.Needs.{needs}
 use native.Mathlib.Omega.{arith}
 use denote.Ref.{now}
-use Rattle.memory.proofs.Store.{few}
+use Rattle.memory.proofs.Laws.{few}
 use Rattle.records.specs.Opening.{rowRank}
 use Rattle.opening.proofs.Placing.{row-range, row-order, row-placed}
 use Rattle.opening.proofs.place_row.Statement.{statement}

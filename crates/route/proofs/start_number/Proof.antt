@@ -1,10 +1,8 @@
 -- `route::start_number` meets its contract, case by case.
 -- Assumes nothing.
 use borrow.Author.Needs.{needs}
-use mathlib.Core.Path.{sym, ap, _∙_}
-use Rattle.network.specs.Route.{unrouted}
-use Rattle.memory.specs.Answers.{rowMeans}
-use Rattle.route.proofs.Answering.{startOf, start-read}
+use mathlib.Core.Path.{sym}
+use Rattle.route.proofs.Answering.{start-refused, start-none, start-origin, start-route}
 use Rattle.route.proofs.start_number.Statement.{statement}
 use Rattle.route.proofs.start_number.Tie as tie
 
@@ -24,28 +22,16 @@ enum-told-4 : tie.Need-enum-told-4
 enum-told-4 c = search needs
 
 returns : tie.Need-returns
-unfolding rowMeans unrouted
-returns c =
-    let a = c .before .before .before .args in
-    ap startOf (ap rowMeans (sym (c .enum-told .given .1)) ∙ c .before .before .row .ensures) ∙ sym (start-read _ (a .node))
+returns c = sym (start-refused _ (c .before .before .before .args .node) _ (c .before .before .row .ensures) (c .enum-told .given .1))
 
 returns-2 : tie.Need-returns-2
-unfolding rowMeans unrouted
-returns-2 c =
-    let a = c .before .before .before .args in
-    ap startOf (ap rowMeans (sym (c .enum-told2 .given .1)) ∙ c .before .before .row .ensures) ∙ sym (start-read _ (a .node))
+returns-2 c = sym (start-none _ (c .before .before .before .args .node) _ (c .before .before .row .ensures) (c .enum-told2 .given .1))
 
 returns-3 : tie.Need-returns-3
-unfolding rowMeans unrouted
-returns-3 c =
-    let a = c .before .before .before .args in
-    ap startOf (ap rowMeans (sym (c .enum-told3 .given .1)) ∙ c .before .before .row .ensures) ∙ sym (start-read _ (a .node))
+returns-3 c = sym (start-origin _ (c .before .before .before .args .node) _ (c .before .before .row .ensures) (c .enum-told3 .given .1))
 
 returns-4 : tie.Need-returns-4
-unfolding rowMeans unrouted
-returns-4 c =
-    let a = c .before .before .before .args in
-    ap startOf (ap rowMeans (sym (c .enum-told4 .given .1)) ∙ c .before .before .row .ensures) ∙ sym (start-read _ (a .node))
+returns-4 c = sym (start-route _ (c .before .before .before .args .node) _ (c .before .before .row .ensures) (c .enum-told4 .given .1))
 
 pub start-number-spec : {M : Type 1} → statement M
 start-number-spec =

@@ -3,17 +3,16 @@
 use borrow.Author.Needs.{needs}
 use borrow.Author.Tests.{lt-ltb}
 use native.Mathlib.Omega.{arith}
-use mathlib.Core.Path.{_≡_, sym, ap, _∙_}
-use Prim.Native.Nat.{_-_, _<_, _≤_}
+use mathlib.Core.Path.{_≡_, sym, _∙_}
+use Prim.Native.Nat.{_<_, _≤_}
 use lib.ListN.{length, drop, length-set}
 use denote.Ref.{now}
 use Rattle.ancestors.specs.Ancestors.{put}
 use Rattle.network.specs.Faults.{maxNodes}
 use Rattle.network.specs.Route.{walk, walkBack}
 use Rattle.memory.specs.Layout.{view}
-use Rattle.memory.specs.Answers.{rowMeans}
-use Rattle.memory.proofs.Store.{few}
-use Rattle.route.proofs.Answering.{row-read, node-read, start-walk, step-spent, step-again, step-lost, step-arrived, step-onward}
+use Rattle.memory.proofs.Laws.{few}
+use Rattle.route.proofs.Answering.{lost-refused, lost-none, at-origin, at-relay, start-walk, step-spent, step-again, step-lost, step-arrived, step-onward}
 use Rattle.route.proofs.walk_back.Statement.{statement}
 use Rattle.route.proofs.walk_back.Tie as tie
 
@@ -51,11 +50,9 @@ same-length-2 : tie.Need-same-length-2 Inv-loop μ-loop
 same-length-2 c = omega arith
 
 returns-2 : tie.Need-returns-2 Inv-loop μ-loop
-unfolding rowMeans
 returns-2 c =
     let l = c .before .before .before .before .before .before .loop in
-    let e = ap rowMeans (sym (c .enum-told .given .1)) ∙ c .before .before .row .ensures in
-    let r = row-read _ (l .y) ∙ ap (λ a. a .row) (sym e) in
+    let r = lost-refused _ (l .y) _ (c .before .before .row .ensures) (c .enum-told .given .1) in
     let new = sym (c .before .before .before .before .listed .ensures) ∙ c .before .before .before .if1 .left in
     step-lost _ _ (l .y) (l .met) (l .left) (l .bytes) (l .inv .0) (search needs) new r
 
@@ -66,11 +63,9 @@ same-length-3 : tie.Need-same-length-3 Inv-loop μ-loop
 same-length-3 c = omega arith
 
 returns-3 : tie.Need-returns-3 Inv-loop μ-loop
-unfolding rowMeans
 returns-3 c =
     let l = c .before .before .before .before .before .before .loop in
-    let e = ap rowMeans (sym (c .enum-told2 .given .1)) ∙ c .before .before .row .ensures in
-    let r = row-read _ (l .y) ∙ ap (λ a. a .row) (sym e) in
+    let r = lost-none _ (l .y) _ (c .before .before .row .ensures) (c .enum-told2 .given .1) in
     let new = sym (c .before .before .before .before .listed .ensures) ∙ c .before .before .before .if1 .left in
     step-lost _ _ (l .y) (l .met) (l .left) (l .bytes) (l .inv .0) (search needs) new r
 
@@ -81,12 +76,10 @@ sub-left : tie.Need-sub-left Inv-loop μ-loop
 sub-left c = omega arith
 
 cast-bytes : tie.Need-cast-bytes Inv-loop μ-loop
-unfolding rowMeans
 cast-bytes c =
     let l = c .before .before .before .before .before .before .loop in
-    let e = ap rowMeans (sym (c .enum-told3 .given .1)) ∙ c .before .before .row .ensures in
-    let node = node-read _ (l .y) (ap (λ a. a .number) (sym e)) in
-    omega (arith, few (now (c .before .before .before .before .before .before .before .before .args .net)), node)
+    let r = at-origin _ (l .y) _ (c .before .before .row .ensures) (c .enum-told3 .given .1) in
+    omega (arith, few (now (c .before .before .before .before .before .before .before .before .args .net)), r .0)
 
 slice-write-bytes : tie.Need-slice-write-bytes Inv-loop μ-loop
 slice-write-bytes c = omega arith
@@ -99,13 +92,11 @@ same-length-4 c =
     simp length-set (omega arith)
 
 returns-4 : tie.Need-returns-4 Inv-loop μ-loop
-unfolding rowMeans
 returns-4 c =
     let l = c .before .before .before .before .before .before .loop in
-    let e = ap rowMeans (sym (c .enum-told3 .given .1)) ∙ c .before .before .row .ensures in
-    let r = row-read _ (l .y) ∙ ap (λ a. a .row) (sym e) in
+    let r = at-origin _ (l .y) _ (c .before .before .row .ensures) (c .enum-told3 .given .1) in
     let new = sym (c .before .before .before .before .listed .ensures) ∙ c .before .before .before .if1 .left in
-    step-arrived _ _ (l .y) (l .met) (l .left) (l .bytes) (l .inv .0) (search needs) new (l .inv .2) (l .inv .1) _ r
+    step-arrived _ _ (l .y) (l .met) (l .left) (l .bytes) (l .inv .0) (search needs) new (l .inv .2) (l .inv .1) _ (r .1)
 
 enum-known-row : tie.Need-enum-known-row Inv-loop μ-loop
 enum-known-row c = search needs
@@ -114,12 +105,10 @@ sub-left-2 : tie.Need-sub-left-2 Inv-loop μ-loop
 sub-left-2 c = omega arith
 
 cast-bytes-2 : tie.Need-cast-bytes-2 Inv-loop μ-loop
-unfolding rowMeans
 cast-bytes-2 c =
     let l = c .before .before .before .before .before .before .before .loop in
-    let e = ap rowMeans (sym (c .before .row2 .given .1)) ∙ c .before .before .before .row .ensures in
-    let node = node-read _ (l .y) (ap (λ a. a .number) (sym e)) in
-    omega (arith, few (now (c .before .before .before .before .before .before .before .before .before .args .net)), node)
+    let r = at-relay _ (l .y) _ (c .before .before .before .row .ensures) (c .before .row2 .given .1) in
+    omega (arith, few (now (c .before .before .before .before .before .before .before .before .before .args .net)), r .0)
 
 slice-write-bytes-2 : tie.Need-slice-write-bytes-2 Inv-loop μ-loop
 slice-write-bytes-2 c = omega arith
@@ -131,16 +120,13 @@ loop-less : tie.Need-loop-less Inv-loop μ-loop
 loop-less c = omega arith
 
 loop-again : tie.Need-loop-again Inv-loop μ-loop
-unfolding rowMeans
 loop-again c =
     let l = c .before .before .before .before .before .before .before .before .loop in
-    let e = ap rowMeans (sym (c .before .before .row2 .given .1)) ∙ c .before .before .before .before .row .ensures in
-    let r = row-read _ (l .y) ∙ ap (λ a. a .row) (sym e) in
+    let r = at-relay _ (l .y) _ (c .before .before .before .before .row .ensures) (c .before .before .row2 .given .1) in
     let new = sym (c .before .before .before .before .before .before .listed .ensures) ∙ c .before .before .before .before .before .if1 .left in
-    let node = node-read _ (l .y) (ap (λ a. a .number) (sym e)) in
-    let small : l .y < 32 = omega (arith, few (now (c .before .before .before .before .before .before .before .before .before .before .args .net)), node) in
+    let small : l .y < 32 = omega (arith, few (now (c .before .before .before .before .before .before .before .before .before .before .args .net)), r .0) in
     let j : c .joined .result ≡ put (l .met) (l .y) = c .joined .ensures ∙ rw (lt-ltb (l .y) 32 small) in (
-      step-onward _ _ (l .y) (l .met) (l .left) (l .bytes) (l .inv .0) (search needs) new (l .inv .2) (l .inv .1) _ _ _ _ r j,
+      step-onward _ _ (l .y) (l .met) (l .left) (l .bytes) (l .inv .0) (search needs) new (l .inv .2) (l .inv .1) _ _ _ _ (r .1) j,
       omega arith,
       simp length-set (l .inv .2),
     )

@@ -8,7 +8,8 @@ use lib.ListN.{length-set}
 use denote.Ref.{now}
 use borrow.Author.Tests.{lt-ltb}
 use Rattle.memory.specs.Layout.{look, view}
-use Rattle.memory.proofs.Store.{few, read-first}
+use Rattle.memory.proofs.Laws.{few}
+use Rattle.memory.proofs.Store.{read-first}
 use Rattle.routing.proofs.Hearing.{primes, unprimed}
 use Rattle.routing.proofs.prime.Statement.{statement}
 use Rattle.routing.proofs.prime.Tie as tie

@@ -5,7 +5,7 @@ use native.Mathlib.Omega.{arith}
 use mathlib.Core.Path.{sym, _∙_}
 use denote.Ref.{now}
 use Rattle.memory.specs.Layout.{view}
-use Rattle.memory.proofs.Store.{few}
+use Rattle.memory.proofs.Laws.{few}
 use Rattle.routing.proofs.Hearing.{nodes-same, nodes-kept, nodes-count}
 use Rattle.routing.proofs.Rounding.{round-cut, round-stray, round-idle, round-done}
 use Rattle.routing.proofs.round.Statement.{statement}

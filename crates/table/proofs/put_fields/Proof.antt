@@ -50,7 +50,7 @@ returns : tie.Need-returns
 returns c =
     let start = c .before .before .before .before .before .before .before .before .before in
     let x = view (now (start .args .net)) in
-    let some = fields-route x (start .args .node) _ (start .pre .0) (c .before .before .before .before .before .before .before .row .ensures) (c .before .before .before .before .before .row2 .given .1) in
+    let some = fields-route x (start .args .node) _ (c .before .before .before .before .before .before .before .row .ensures) (c .before .before .before .before .before .row2 .given .1) in
     filled-as some (omega arith) (c .before .before .put-route .ensures)
 
 same-length-2 : tie.Need-same-length-2
@@ -61,7 +61,7 @@ unfolding originFields
 returns-2 c =
     let start = c .before .before .before .before .before .before .before .before .before .before in
     let x = view (now (start .args .net)) in
-    let origin = fields-origin x (start .args .node) _ (start .pre .0) (c .before .before .before .before .before .before .before .before .row .ensures) (c .before .before .before .before .before .before .row3 .given .1) in
+    let origin = fields-origin x (start .args .node) _ (c .before .before .before .before .before .before .before .before .row .ensures) (c .before .before .before .before .before .before .row3 .given .1) in
     filled-as origin (omega arith) (c .before .before .put-named .ensures)
 
 same-length-3 : tie.Need-same-length-3
@@ -72,14 +72,14 @@ unfolding noRoute
 returns-3 c =
     let start = c .before .before .before .before .before .before .before .before .before in
     let x = view (now (start .args .net)) in
-    let none = fields-none x (start .args .node) _ (start .pre .0) (c .before .before .before .before .before .before .before .row .ensures) (c .before .before .before .before .before .enum-told .given .1) in
+    let none = fields-none x (start .args .node) _ (c .before .before .before .before .before .before .before .row .ensures) (c .before .before .before .before .before .enum-told .given .1) in
     filled-as none (omega arith) (filled-text (c .before .before .put-text .ensures))
 
 returns-4 : tie.Need-returns-4
 returns-4 c =
     let start = c .before .before .before .before in
     let x = view (now (start .args .net)) in
-    absurd (not-refused x (start .args .node) _ (start .pre .0) (c .before .before .row .ensures) (c .enum-told2 .given .1))
+    absurd (not-refused x (start .args .node) _ (c .before .before .row .ensures) (start .pre .0) (c .enum-told2 .given .1))
 
 pub put-fields-spec : {M : Type 1} → statement M
 put-fields-spec =

@@ -7,7 +7,7 @@ use mathlib.Core.Path.{_≡_, refl, subst, _∙_}
 use lib.ListN.{length}
 use denote.Ref.{now}
 use Rattle.memory.specs.Layout.{view}
-use Rattle.memory.proofs.Store.{few}
+use Rattle.memory.proofs.Laws.{few}
 use Rattle.records.specs.Image.{each}
 use Rattle.records.proofs.Each.{each-none}
 use Rattle.filling.specs.Filling.{Added}

@@ -1,0 +1,160 @@
+-- What crates above may cite of a network in words without knowing the layout: its size, the origin's row, what a row, a cost or a report that is read
+-- says, pairs read without n, and what a call leaves.
+-- Assumes nothing.
+use mathlib.Core.Path.{_≡_, refl, sym, ap, _∙_}
+use mathlib.Core.Bool.{Bool, true, false, cond}
+use mathlib.Core.Logic.{_≢_}
+use mathlib.Core.List.{List}
+use Prim.Native.Nat.{ℕ, _<_, _≤_}
+use native.Mathlib.Omega.{arith}
+use borrow.Author.Tests.{lt-ltb, lt-leb}
+use Rattle.ancestors.specs.Ancestors.{own, hops}
+use Rattle.ancestors.proofs.Cases.{eqb-same}
+use Rattle.network.specs.Faults.{maxNodes, nodeFault, pairFault}
+use Rattle.network.specs.Network.{Row, none, root, via, Report, empty, told, Net, outcome}
+use Rattle.network.proofs.Effects.{outcome-number, refused-net, accepted-net}
+use Rattle.memory.specs.Layout.{cell, rowAt, netOf, look, view, wide, arcCosts, heldLabels, heldLists}
+use Rattle.memory.specs.Answers.{Leaves, Starts, RowAnswer, rowHops, readRow, rowMeans, CostAnswer, readCost, costMeans, HeldAnswer, readHeld, heldMeans}
+use Rattle.memory.specs.declared.RowRead.{RowRead}
+use Rattle.memory.specs.declared.RowRead.the-variants as R
+use Rattle.memory.specs.declared.CostRead.{CostRead}
+use Rattle.memory.specs.declared.HeldRead.{HeldRead}
+use Rattle.memory.specs.declared.HeldRead.the-variants as H
+
+-- a network has at most 32 nodes
+pub few : (xs : List ℕ) → view xs .nodes ≤ maxNodes
+unfolding view netOf
+few xs = omega arith
+
+-- the origin has the origin's row
+pub read-origin : (xs : List ℕ) (y : ℕ) → y ≡ view xs .origin → view xs .row y ≡ root (own y)
+unfolding view netOf rowAt
+read-origin xs y o = rw (← o, eqb-same y)
+
+-- ---- an answer m: refused as 3 for a fault, and else accepted
+
+accepted : {A : Type 0} (number : A → ℕ) (fault : Bool) (bad good m : A) → m ≡ cond fault bad good → number bad ≡ 3 → number m ≡ 0 → (fault ≡ false) × (m ≡ good)
+accepted number true bad good m e b z = absurd (omega (arith, ap number e))
+accepted number false bad good m e b z = (refl, e)
+
+refused : {A : Type 0} (number : A → ℕ) (fault : Bool) (bad good m : A) → m ≡ cond fault bad good → number good ≡ 0 → number m ≡ 3 → fault ≡ true
+refused number true bad good m e g z = refl
+refused number false bad good m e g z = absurd (omega (arith, ap number e))
+
+-- ---- what an answer says of y's row
+
+module _ (x : Net) (y : ℕ) (r : RowRead) (said : rowMeans r ≡ readRow x y) where
+  -- y is no node
+  pub said-refused : r ≡ R.Refused → nodeFault (x .nodes) y ≡ true
+  unfolding readRow rowMeans
+  said-refused e = refused (λ (a : RowAnswer). a .number) (nodeFault (x .nodes) y) _ _ _ (sym (ap rowMeans e) ∙ said) refl refl
+
+  -- y is a node and has the row w
+  row-said : (w : Row) (k : ℕ) → rowMeans r ≡ record { number = 0; row = w; hops = k } → (nodeFault (x .nodes) y ≡ false) × (x .row y ≡ w) × (k ≡ rowHops w)
+  unfolding readRow
+  row-said w k e =
+      let a = accepted (λ (b : RowAnswer). b .number) (nodeFault (x .nodes) y) _ _ _ (sym e ∙ said) refl refl in
+      let row = sym (ap (λ (b : RowAnswer). b .row) (a .1)) in
+      (a .0, row, ap (λ (b : RowAnswer). b .hops) (a .1) ∙ ap rowHops row)
+
+  -- it has no route, is the origin, or is a relay with a route; hops are those of the list
+  pub said-none : r ≡ R.NoRoute → (nodeFault (x .nodes) y ≡ false) × (x .row y ≡ none)
+  unfolding rowMeans
+  said-none e = let a = row-said none 0 (ap rowMeans e) in (a .0, a .1)
+
+  pub said-origin : {l k : ℕ} → r ≡ R.Origin l k → (nodeFault (x .nodes) y ≡ false) × (x .row y ≡ root l) × (k ≡ hops l)
+  unfolding rowMeans rowHops
+  said-origin {l} {k} e = row-said (root l) k (ap rowMeans e)
+
+  pub said-route : {d p l k : ℕ} → r ≡ R.Route d p l k → (nodeFault (x .nodes) y ≡ false) × (x .row y ≡ via d p l) × (k ≡ hops l)
+  unfolding rowMeans rowHops
+  said-route {d} {p} {l} {k} e = row-said (via d p l) k (ap rowMeans e)
+
+-- ---- what an answer says of the cost from s to t
+
+module _ (x : Net) (s t : ℕ) (r : CostRead) (said : costMeans r ≡ readCost x s t) where
+  -- they are no pair of nodes, or a pair of this cost
+  pub said-no-cost : pairFault (x .nodes) s t ≡ true → r .cost ≡ 0
+  unfolding readCost costMeans
+  said-no-cost f = ap (λ (a : CostAnswer). a .cost) (rw f at said)
+
+  pub said-cost : pairFault (x .nodes) s t ≡ false → r .cost ≡ x .cost s t
+  unfolding readCost costMeans
+  said-cost f = ap (λ (a : CostAnswer). a .cost) (rw f at said)
+
+-- ---- what an answer says of the report from s to t
+
+module _ (x : Net) (s t : ℕ) (r : HeldRead) (said : heldMeans r ≡ readHeld x s t) where
+  -- they are no pair of nodes
+  pub said-no-pair : r ≡ H.Refused → pairFault (x .nodes) s t ≡ true
+  unfolding readHeld heldMeans
+  said-no-pair e = refused (λ (a : HeldAnswer). a .number) (pairFault (x .nodes) s t) _ _ _ (sym (ap heldMeans e) ∙ said) refl refl
+
+  -- they are a pair with the report h
+  held-said : (h : Report) → heldMeans r ≡ record { number = 0; held = h } → (pairFault (x .nodes) s t ≡ false) × (x .held s t ≡ h)
+  unfolding readHeld
+  held-said h e =
+      let a = accepted (λ (b : HeldAnswer). b .number) (pairFault (x .nodes) s t) _ _ _ (sym e ∙ said) refl refl in
+      (a .0, sym (ap (λ (b : HeldAnswer). b .held) (a .1)))
+
+  pub said-empty : r ≡ H.Empty → (pairFault (x .nodes) s t ≡ false) × (x .held s t ≡ empty)
+  unfolding heldMeans
+  said-empty e = held-said empty (ap heldMeans e)
+
+  pub said-report : {d l : ℕ} → r ≡ H.Report d l → (pairFault (x .nodes) s t ≡ false) × (x .held s t ≡ told d l)
+  unfolding heldMeans
+  said-report {d} {l} e = held-said (told d l) (ap heldMeans e)
+
+-- ---- a pair of nodes below n reads the same whether n counts or all 32 nodes do
+
+-- a test of two numbers below both bounds is whether they are equal
+same-fault : (n m s r : ℕ) → s < n → r < n → s < m → r < m → pairFault n s r ≡ pairFault m s r
+unfolding pairFault
+same-fault n m s r a b c d = rw (lt-leb n s a, lt-leb n r b, lt-leb m s c, lt-leb m r d)
+
+module _ (xs : List ℕ) (s r : ℕ) (hs : s < view xs .nodes) (hr : r < view xs .nodes) where
+  small : (s < maxNodes) × (r < maxNodes)
+  small = (omega (arith, few xs), omega (arith, few xs))
+
+  fault-same : pairFault maxNodes s r ≡ pairFault (view xs .nodes) s r
+  fault-same = same-fault maxNodes (view xs .nodes) s r (small .0) (small .1) hs hr
+
+  cell-same : (b : ℕ) → cell maxNodes (look xs) b s r ≡ cell (view xs .nodes) (look xs) b s r
+  unfolding cell
+  cell-same b = rw (lt-ltb s maxNodes (small .0), lt-ltb r maxNodes (small .1), lt-ltb s (view xs .nodes) hs, lt-ltb r (view xs .nodes) hr)
+
+  pub wide-cost : readCost (wide xs) s r ≡ readCost (view xs) s r
+  unfolding readCost wide view netOf
+  wide-cost = rw (fault-same, cell-same arcCosts)
+
+  pub wide-held : readHeld (wide xs) s r ≡ readHeld (view xs) s r
+  unfolding readHeld wide view netOf
+  wide-held = rw (fault-same, cell-same heldLabels, cell-same heldLists)
+
+-- ---- what a call leaves, from its number
+
+-- refused as k: the words are the same
+pub leaves-refused : (k number : ℕ) (next : Net) (xs : List ℕ) → k ≡ number → k ≢ 0 → Leaves (outcome number next (view xs)) k xs xs
+leaves-refused k number next xs e n =
+    record {
+      number = e ∙ sym (outcome-number number next (view xs));
+      net = sym (refused-net number next (view xs) (λ z. n (e ∙ z)));
+      same = λ z. refl;
+    }
+
+-- accepted: the words give the next network
+pub leaves-accepted : (number : ℕ) (next : Net) (xs ys : List ℕ) → 0 ≡ number → view ys ≡ next → Leaves (outcome number next (view xs)) 0 xs ys
+leaves-accepted number next xs ys e v =
+    record {
+      number = e ∙ sym (outcome-number number next (view xs));
+      net = v ∙ sym (accepted-net number next (view xs) (sym e));
+      same = λ z. absurd (z refl);
+    }
+
+pub starts-refused : (k number : ℕ) (next other : Net) (xs : List ℕ) → k ≡ number → k ≢ 0 → view xs ≡ other → Starts (outcome number next other) k xs
+starts-refused k number next other xs e n v =
+    record { number = e ∙ sym (outcome-number number next other); net = v ∙ sym (refused-net number next other (λ z. n (e ∙ z))) }
+
+pub starts-accepted : (number : ℕ) (next other : Net) (xs : List ℕ) → 0 ≡ number → view xs ≡ next → Starts (outcome number next other) 0 xs
+starts-accepted number next other xs e v =
+    record { number = e ∙ sym (outcome-number number next other); net = v ∙ sym (accepted-net number next other (sym e)) }
