@@ -18,7 +18,7 @@ run-into-requires c κs = search needs
 
 refusal-requires-2 : tie.Need-refusal-requires-2
 refusal-requires-2 c κs =
-    place-short _ (c .before .before .before .before .if1 .left) _ _ (c .before .before .run-into .ensures)
+    omega (arith, place-short _ (c .before .before .before .before .if1 .left) _ _ (c .before .before .run-into .ensures))
 
 returns-2 : tie.Need-returns-2
 returns-2 c =
