@@ -36,8 +36,7 @@ next x (writeImage out) = x
 
 -- a reading call answers an outcome too
 reads-outcome : (x : Net) (k : ℕ) → reads x k ≡ outcome k x x
-unfolding outcome
-reads-outcome x k = ap (λ (z : Net). record { number = k; net = z }) (sym (outcome-same k x))
+reads-outcome x k = λ i. record { number = sym (outcome-number k x x) i; net = sym (outcome-same k x) i }
 
 -- every call answers an outcome
 called-outcome : (x : Net) (c : Call) → called x c ≡ outcome (number x c) (next x c) x
