@@ -2,8 +2,8 @@
 -- Assumes nothing.
 use mathlib.Core.Path.{_≡_, sym, ap, _∙_}
 use mathlib.Core.Logic.{_⊎_, inl, inr, _≢_}
-use mathlib.Core.List.{List, _++_}
-use Prim.Native.Nat.{ℕ, _+_, _*_, _/_, _%_, _<_, _≤_}
+use mathlib.Core.List.{List}
+use Prim.Native.Nat.{ℕ, _*_, _/_, _%_, _<_, _≤_}
 use native.Mathlib.Omega.{arith}
 use lib.ListN.{length, drop}
 use Rattle.ancestors.proofs.Cases.{eq-or-ne, le-or-lt}
@@ -11,11 +11,11 @@ use Rattle.records.specs.Numbers.{Bytes}
 use Rattle.records.specs.Image.{image, maxImage}
 use Rattle.records.specs.Opening.{acceptedOpening, openOf}
 use Rattle.records.specs.Running.{runOf}
-use Rattle.settling.specs.Calls.{roundsHeard}
 use Rattle.records.proofs.Sizes.{image-most}
 use Rattle.records.proofs.Acceptance.{reopening}
 use Rattle.records.proofs.Places.{run-small}
 use Rattle.records.proofs.Begun.{run-image}
+use Rattle.settling.specs.Calls.{roundsHeard}
 use Rattle.settling.proofs.RunCalls.{run-within, run-settles}
 use Rattle.firmware.specs.Calling.{Called, maxRun, refusedAnswer, callOf, CallIs, refused, written}
 use Rattle.firmware.specs.Demand.{OpensPromised, CallSettles}

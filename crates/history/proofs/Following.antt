@@ -7,15 +7,15 @@ use Prim.Native.Nat.{ℕ}
 use Rattle.network.specs.Network.{Net}
 use Rattle.memory.specs.Layout.{view}
 use Rattle.settling.specs.Calls.{Call, called, after, roundsHeard, Promises}
-use Rattle.settling.specs.Demand.{Answered, by-fresh as fresh-answers}
+use Rattle.settling.specs.Demand.{Answered, by-fresh}
 use Rattle.settling.proofs.CallLaws.{after-append}
 use Rattle.settling.proofs.Theorem.{open-answers, demand3}
-use Rattle.history.specs.History.{Made, by-change, by-grade, by-round, by-full-round, by-route, by-image, History, no-call, one-more, numbers, Follows, HistoryFollows, Begun, by-fresh, by-open, WordsSettle}
+use Rattle.history.specs.History.{CallMade, by-change, by-grade, by-round, by-full-round, by-route, by-image, History, no-call, one-more, numbers, Follows, HistoryFollows, Begun, fresh-left, open-left, WordsSettle}
 
 -- ---- one call
 
 -- the words after it give the network that the call leaves
-made-net : {c : Call} {k : ℕ} {xs ys : List ℕ} → Made c k xs ys → view ys ≡ called (view xs) c .net
+made-net : {c : Call} {k : ℕ} {xs ys : List ℕ} → CallMade c k xs ys → view ys ≡ called (view xs) c .net
 unfolding called
 made-net (by-change l) = l .net
 made-net (by-grade l) = l .net
@@ -25,7 +25,7 @@ made-net (by-route w) = refl
 made-net (by-image w) = refl
 
 -- and its number is the call's
-made-number : {c : Call} {k : ℕ} {xs ys : List ℕ} → Made c k xs ys → k ≡ called (view xs) c .number
+made-number : {c : Call} {k : ℕ} {xs ys : List ℕ} → CallMade c k xs ys → k ≡ called (view xs) c .number
 unfolding called
 made-number (by-change l) = l .number
 made-number (by-grade l) = l .number
@@ -35,13 +35,13 @@ made-number (by-route w) = w .number
 made-number (by-image w) = w .number
 
 -- a refused call leaves every word as it stood
-pub refused-same : {c : Call} {k : ℕ} {xs ys : List ℕ} → Made c k xs ys → k ≢ 0 → ys ≡ xs
-refused-same (by-change l) n = l .same n
-refused-same (by-grade l) n = l .same n
-refused-same (by-round l) n = l .same n
-refused-same (by-full-round l) n = l .same n
-refused-same (by-route w) n = refl
-refused-same (by-image w) n = refl
+pub refused-words : {c : Call} {k : ℕ} {xs ys : List ℕ} → CallMade c k xs ys → k ≢ 0 → ys ≡ xs
+refused-words (by-change l) n = l .same n
+refused-words (by-grade l) n = l .same n
+refused-words (by-round l) n = l .same n
+refused-words (by-full-round l) n = l .same n
+refused-words (by-route w) n = refl
+refused-words (by-image w) n = refl
 
 -- ---- a history
 
@@ -63,8 +63,8 @@ history-follows xs cs ks zs h = follow h
 
 -- words that an accepted call left give a network that it answers
 begun-answered : {xs : List ℕ} → Begun xs → Answered (view xs)
-begun-answered (by-fresh n origin s) = fresh-answers n origin (sym (s .number)) (sym (s .net))
-begun-answered (by-open bs place used bytes o) = subst Answered (sym (o .net-is)) (open-answers bs bytes (sym (o .number-is)))
+begun-answered (fresh-left n origin s) = by-fresh n origin (sym (s .number)) (sym (s .net))
+begun-answered (open-left bs place used bytes o) = subst Answered (sym (o .net-is)) (open-answers bs bytes (sym (o .number-is)))
 
 pub words-settle : WordsSettle
 words-settle xs b before stretch ks zs h W s =

@@ -1,4 +1,4 @@
--- A run begins with its image: refused, it answers as opening does; accepted, the events follow.
+-- A run begins with its image: refused, it answers as opening does; accepted, the events follow, and the first refused one stops it.
 -- Assumes nothing.
 use mathlib.Core.Path.{_≡_, sym, ap, _∙_}
 use mathlib.Core.Logic.{_⊎_, inl, inr, _≢_}
@@ -7,8 +7,9 @@ use Prim.Native.Nat.{ℕ}
 use lib.ListN.{length, drop}
 use borrow.Author.Tests.{eq-eqb, ne-eqb}
 use Rattle.ancestors.proofs.Cases.{eq-or-ne}
+use Rattle.network.specs.Network.{Net, Outcome}
 use Rattle.records.specs.Opening.{openOf}
-use Rattle.records.specs.Running.{Running, readEvents, runFrom, runOf}
+use Rattle.records.specs.Running.{Running, afterEvent, readEvents, runFrom, runOf}
 
 module _ (s : List ℕ) where
   -- with its image refused, as opening does, with 0 rounds
@@ -28,3 +29,15 @@ module _ (s : List ℕ) where
       go : (openOf s .number ≡ 0) ⊎ (openOf s .number ≢ 0) → openOf s .number ≡ 0
       go (inl z) = z
       go (inr n) = sym (ap (λ (r : Running). r .number) (run-refused n)) ∙ e
+
+-- after an event with the outcome o
+module _ (go : Net → Running) (at rounds : ℕ) (o : Outcome) where
+  -- a refused one stops the run
+  pub event-stops : o .number ≢ 0 → afterEvent go at rounds o ≡ record { number = o .number; place = at; rounds = rounds; net = o .net }
+  unfolding afterEvent
+  event-stops n = rw (ne-eqb (o .number) 0 n)
+
+  -- an accepted one goes on
+  pub event-goes-on : o .number ≡ 0 → afterEvent go at rounds o ≡ go (o .net)
+  unfolding afterEvent
+  event-goes-on e = rw (eq-eqb (o .number) 0 e)

@@ -11,7 +11,7 @@ use lib.ListN.{length, take}
 use borrow.Author.Tests.{lt-ltb, le-ltb, ne-eqb, ltb-false}
 use Rattle.ancestors.proofs.Cases.{le-or-lt, never, cond-by}
 use Rattle.network.specs.Faults.{gradeFault}
-use Rattle.records.specs.Records.{Section, atStart, inImage, asEvent, bodyLength, bodyOf, gradeChange, eventOf, allowed, refusedRecord, bodied, recordOf}
+use Rattle.records.specs.Records.{Section, atStart, inImage, asEvent, bodyLength, recordLength, bodyOf, gradeChange, eventOf, allowed, refusedRecord, bodied, recordOf}
 use Rattle.records.specs.declared.Event.{Event}
 use Rattle.records.specs.declared.Event.the-variants.{End, Header, Change, Row, Report, Round, FullRound, Refusal}
 use Rattle.records.specs.declared.Record.{Record}
@@ -46,7 +46,7 @@ by-kind Q a b c d e f g h (suc (suc (suc (suc (suc (suc (suc zero))))))) l = h
 by-kind Q a b c d e f g h (suc (suc (suc (suc (suc (suc (suc (suc k)))))))) l = absurd (omega arith)
 
 -- at a kind that a section does not allow
-clash : {A : Type 0} → false ≡ true → A
+pub clash : {A : Type 0} → false ≡ true → A
 clash e = never false e refl
 
 -- ---- the outcomes of reading
@@ -54,7 +54,7 @@ clash e = never false e refl
 -- what holds of both choices, each under its test, holds of the one taken
 -- a record of kind k that was read whole
 abbrev pub wholeRecord : ℕ → ℕ → List ℕ → Record
-wholeRecord at k b = record { event = eventOf at k (bodyOf k b); length = suc (bodyLength k) }
+wholeRecord at k b = record { event = eventOf at k (bodyOf k b); length = recordLength k }
 
 -- what holds of a record that is cut, of one whose kind is not allowed and of every whole one holds of the record read
 pub by-outcome : (P : Record → Type 0) (z : Section) (at : ℕ) (bs : List ℕ) → P (refusedRecord 1 at) → P (refusedRecord 2 at) →
@@ -131,15 +131,15 @@ refused-expected atStart at e a b = (refl, a, b)
 refused-expected inImage at e a b = (refl, a, b)
 refused-expected asEvent at e a b = (refl, a, b)
 
-whole-expected : (z : Section) (at : ℕ) (b : List ℕ) (k : ℕ) → k < 8 → allowed z k ≡ true → Expected z at (suc (bodyLength k)) (eventOf at k b)
+whole-expected : (z : Section) (at : ℕ) (b : List ℕ) (k : ℕ) → k < 8 → allowed z k ≡ true → Expected z at (recordLength k) (eventOf at k b)
 unfolding allowed bodyLength eventOf gradeChange
 whole-expected atStart at b =
-    by-kind (λ k. allowed atStart k ≡ true → StartEvent at (suc (bodyLength k)) (eventOf at k b)) clash (λ _. refl) clash clash clash clash clash clash
+    by-kind (λ k. allowed atStart k ≡ true → StartEvent at (recordLength k) (eventOf at k b)) clash (λ _. refl) clash clash clash clash clash clash
 whole-expected inImage at b =
-    by-kind (λ k. allowed inImage k ≡ true → ImageEvent at (suc (bodyLength k)) (eventOf at k b)) (λ _. refl) clash (λ _. refl) (λ _. refl) (λ _. refl)
+    by-kind (λ k. allowed inImage k ≡ true → ImageEvent at (recordLength k) (eventOf at k b)) (λ _. refl) clash (λ _. refl) (λ _. refl) (λ _. refl)
     clash clash clash
 whole-expected asEvent at b =
-    by-kind (λ k. allowed asEvent k ≡ true → LaterEvent at (suc (bodyLength k)) (eventOf at k b)) clash clash (λ _. (omega arith, omega arith)) clash clash
+    by-kind (λ k. allowed asEvent k ≡ true → LaterEvent at (recordLength k) (eventOf at k b)) clash clash (λ _. (omega arith, omega arith)) clash clash
     (λ _. refl) (λ _. refl)
     (λ _. cond-by (LaterEvent at 4) (gradeFault _) _ _ (λ _. (refl, omega arith, omega arith)) (λ _. (omega arith, omega arith)))
 

@@ -15,8 +15,8 @@ use Rattle.network.specs.Network.{Row, none, root, via, Report, empty, told, Ne
 use Rattle.network.proofs.FaultLaws.{pair-says}
 use Rattle.network.proofs.Limits.{within-size}
 use Rattle.records.specs.Numbers.{be8, be16, be32}
-use Rattle.records.specs.Records.{bodyLength, endRecord, headerRecord, arcRecord, rowRecord, reportRecord}
-use Rattle.records.specs.Image.{each, arcBytes, rowBytes, reportBytes, byNode, byPair, image, recordLength, maxPairs, fullImage, maxImage}
+use Rattle.records.specs.Records.{bodyLength, recordLength, endRecord, headerRecord, arcRecord, rowRecord, reportRecord}
+use Rattle.records.specs.Image.{each, arcBytes, rowBytes, reportBytes, byNode, byPair, image, maxPairs, fullImage, maxImage}
 use Rattle.records.proofs.Each.{each-split, each-most}
 
 -- ---- records
@@ -44,7 +44,7 @@ report-long s r d l = refl
 -- ---- what the parts of an image have at most
 
 arc-most : (s r c : ℕ) → length (arcBytes s r c) ≤ recordLength 2
-unfolding arcBytes recordLength bodyLength
+unfolding arcBytes bodyLength
 arc-most s r c = go (eqb c 0)
   where
     go : (b : Bool) → length (cond b [] (arcRecord s r c)) ≤ recordLength 2
@@ -52,13 +52,13 @@ arc-most s r c = go (eqb c 0)
     go false = omega (arith, arc-long s r c)
 
 row-most : (y : ℕ) (w : Row) → length (rowBytes y w) ≤ recordLength 3
-unfolding rowBytes recordLength bodyLength
+unfolding rowBytes bodyLength
 row-most y none = omega arith
 row-most y (root l) = omega arith
 row-most y (via d p l) = omega (arith, row-long y d p l)
 
 report-most : (s r : ℕ) (h : Report) → length (reportBytes s r h) ≤ recordLength 4
-unfolding reportBytes recordLength bodyLength
+unfolding reportBytes bodyLength
 report-most s r empty = omega arith
 report-most s r (told d l) = omega (arith, report-long s r d l)
 
@@ -127,7 +127,7 @@ module _ (x : Net) where
 
   -- an image of not more than k rows
   image-rows : (k : ℕ) → length rows ≤ recordLength 3 * k → length (image x) ≤ fullImage k
-  unfolding image fullImage recordLength bodyLength
+  unfolding image fullImage bodyLength
   image-rows k f =
       let arcs = byPair x (λ s r. arcBytes s r (x .cost s r)) in
       let reports = byPair x (λ s r. reportBytes s r (x .held s r)) in
@@ -158,9 +158,9 @@ module _ (x : Net) where
 -- ---- the bounds, computed
 
 pub largest-image : maxImage ≡ 16217
-unfolding maxImage fullImage recordLength bodyLength
+unfolding maxImage fullImage bodyLength
 largest-image = refl
 
 pub largest-any : fullImage maxNodes ≡ 16228
-unfolding fullImage recordLength bodyLength
+unfolding fullImage bodyLength
 largest-any = refl

@@ -8,7 +8,7 @@ use lib.ListN.{length}
 use Rattle.network.specs.Faults.{maxNodes, nodeFault, pairFault}
 use Rattle.network.specs.Network.{Row, none, root, via, Report, empty, told, Net}
 use Rattle.network.specs.Writing.{Writing, writing}
-use Rattle.records.specs.Records.{bodyLength, endRecord, headerRecord, arcRecord, rowRecord, reportRecord}
+use Rattle.records.specs.Records.{recordLength, endRecord, headerRecord, arcRecord, rowRecord, reportRecord}
 
 -- the bytes f k, f (k + 1) and on, of d numbers, one after another
 unfoldable pub each : (ℕ → List ℕ) → ℕ → ℕ → List ℕ
@@ -47,10 +47,6 @@ image x =
     (byPair x (λ s r. reportBytes s r (x .held s r)) ++ endRecord)))
 
 -- ---- the largest image
-
--- the bytes of a record of a kind: its kind byte and its body
-unfoldable pub recordLength : ℕ → ℕ
-recordLength kind = suc (bodyLength kind)
 
 -- how many ordered pairs of different nodes the most nodes have
 abbrev pub maxPairs : ℕ

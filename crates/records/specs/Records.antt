@@ -22,6 +22,10 @@ bodies = 0 ∷ 2 ∷ 4 ∷ 10 ∷ 10 ∷ 128 ∷ 0 ∷ 3 ∷ []
 unfoldable pub bodyLength : ℕ → ℕ
 bodyLength k = getD bodies k 0
 
+-- the bytes of a record: its kind byte and its body
+abbrev pub recordLength : ℕ → ℕ
+recordLength k = suc (bodyLength k)
+
 -- ---- written
 
 -- 0: end of image
@@ -90,7 +94,7 @@ refusedRecord e at = record { event = Refusal e at; length = 0 }
 unfoldable pub bodied : ℕ → ℕ → List ℕ → Record
 bodied at k b =
     cond (ltb (length b) (bodyLength k)) (refusedRecord 1 at)
-    (record { event = eventOf at k (bodyOf k b); length = suc (bodyLength k) })
+    (record { event = eventOf at k (bodyOf k b); length = recordLength k })
 
 -- the record at the front of the bytes that begin at the place `at`: missing kind byte 1, then 2, short body 1
 unfoldable pub recordOf : Section → ℕ → List ℕ → Record

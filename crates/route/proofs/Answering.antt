@@ -162,31 +162,31 @@ module _ (x : Net) (y : ℕ) (out : List ℕ) where
 
     module _ (some : k ≢ 0) (size : length bytes ≡ maxNodes) where
       -- the route is what was stored
-      abbrev stretch : List ℕ
-      stretch = drop (maxNodes - k) bytes
+      abbrev laid-nodes : List ℕ
+      laid-nodes = drop (maxNodes - k) bytes
 
-      reaches : walkBack x y ≡ reached stretch
+      reaches : walkBack x y ≡ reached laid-nodes
       unfolding walkOf
       reaches = laid .walk ∙ rw (ne-eqb k 0 some)
 
-      route-length : length stretch ≡ k
+      route-length : length laid-nodes ≡ k
       route-length = omega (arith, length-drop (maxNodes - k) bytes, laid .fits)
 
-      part-all : take (maxNodes - (maxNodes - k)) stretch ≡ stretch
-      part-all = take-all (maxNodes - (maxNodes - k)) stretch (omega (arith, route-length, laid .fits))
+      part-all : take (maxNodes - (maxNodes - k)) laid-nodes ≡ laid-nodes
+      part-all = take-all (maxNodes - (maxNodes - k)) laid-nodes (omega (arith, route-length, laid .fits))
 
       pub answer-six : length out < k → Writes (routeOf x y out) (record { number = 6; length = 0 }) out
       answer-six h =
           let p = start-passed x y first in
-          refused-as 6 (route-six x y (length out) (p .0) (p .1) stretch reaches (omega (arith, route-length))) (λ e. omega arith)
+          refused-as 6 (route-six x y (length out) (p .0) (p .1) laid-nodes reaches (omega (arith, route-length))) (λ e. omega arith)
 
       -- the part of the bytes from the route's first node on
-      pub part-length : length (take (maxNodes - (maxNodes - k)) stretch) ≡ k
+      pub part-length : length (take (maxNodes - (maxNodes - k)) laid-nodes) ≡ k
       part-length = rw part-all route-length
 
-      pub answer-route : k ≤ length out → (part exit : List ℕ) → part ≡ take (maxNodes - (maxNodes - k)) stretch
+      pub answer-route : k ≤ length out → (part exit : List ℕ) → part ≡ take (maxNodes - (maxNodes - k)) laid-nodes
           → exit ≡ part ++ drop (length part) out → Writes (routeOf x y out) (record { number = 0; length = k }) exit
       answer-route h part exit p e =
           let q = start-passed x y first in
-          let n = route-free x y (length out) (q .0) (q .1) stretch reaches (omega (arith, route-length)) in
-          rw (route-written x y out stretch n reaches) (record { number = refl; length = sym route-length; output = rw (p, part-all) at e })
+          let n = route-free x y (length out) (q .0) (q .1) laid-nodes reaches (omega (arith, route-length)) in
+          rw (route-written x y out laid-nodes n reaches) (record { number = refl; length = sym route-length; output = rw (p, part-all) at e })

@@ -8,12 +8,12 @@ use native.Mathlib.Omega.{arith}
 use native.Mathlib.Numerals.{add-one}
 use lib.ListN.{length, getD, take, drop, length-drop, drop-of-length-le}
 use lib.Seq.{drop-cons, drop-drop}
-use borrow.Author.Tests.{eq-eqb, ne-eqb}
-use Rattle.network.specs.Network.{Net, Outcome}
+use Rattle.network.specs.Network.{Net}
 use Rattle.memory.specs.Layout.{view}
 use Rattle.records.specs.Records.{asEvent, bodyOf, recordOf}
 use Rattle.records.specs.Running.{Running, eventDone, roundsIn, afterEvent, readEvents}
 use Rattle.records.specs.declared.Record.{Record}
+use Rattle.records.proofs.Begun.{event-stops, event-goes-on}
 use Rattle.records.proofs.Enough.{no-event, accepted-long}
 use Rattle.records.proofs.Reading.{length-within, round-within, round-body}
 use Rattle.running.specs.Inner.{marksAt, Inside, eventsFrom, Finishes}
@@ -58,16 +58,6 @@ step-at s g x rounds at h =
     let e : drop at s ≡ getD s at 0 ∷ drop (at + 1) s = rw add-one (drop-cons s at 0 h) in
     subst (λ t. readEvents (suc g) x rounds at t ≡ stepped g x rounds at (drop (at + 1) s) t) (sym e) (cons-step g x rounds at (getD s at 0) (drop (at + 1) s))
 
--- a refused event stops
-stopped : (go : Net → Running) (at rounds : ℕ) (o : Outcome) → o .number ≢ 0 → afterEvent go at rounds o ≡ record { number = o .number; place = at; rounds = rounds; net = o .net }
-unfolding afterEvent
-stopped go at rounds o n = rw (ne-eqb (o .number) 0 n)
-
--- an accepted one goes on
-gone-on : (go : Net → Running) (at rounds : ℕ) (o : Outcome) → o .number ≡ 0 → afterEvent go at rounds o ≡ go (o .net)
-unfolding afterEvent
-gone-on go at rounds o e = rw (eq-eqb (o .number) 0 e)
-
 -- what the parts of an answer say
 finishes : (o : Running) (number place rounds : ℕ) (ys : List ℕ) → o ≡ record { number = number; place = place; rounds = rounds; net = view ys }
     → Finishes o (record { number = number; place = place; rounds = rounds }) ys
@@ -104,7 +94,7 @@ module _ {s : List ℕ} {o : Running} {xs : List ℕ} {rounds at : ℕ} (rest : 
         let l = done .0 in
         let m = one-more (rest .fuel) (rest .enough) (rest .same) in
         finishes o k at rounds ys
-        (m .2 ∙ stopped _ at rounds _ (λ e. n (l .number ∙ e)) ∙ (λ i. record { number = sym (l .number) i; place = at; rounds = rounds; net = sym (l .net) i }))
+        (m .2 ∙ event-stops _ at rounds _ (λ e. n (l .number ∙ e)) ∙ (λ i. record { number = sym (l .number) i; place = at; rounds = rounds; net = sym (l .net) i }))
 
     -- accepted: the rest begins after the record
     pub at-next : k ≡ 0 → Rest s o (view ys) (rounds + turns) (at + r .length) × (0 < r .length) × (at + r .length ≤ length s)
@@ -122,7 +112,7 @@ module _ {s : List ℕ} {o : Running} {xs : List ℕ} {rounds at : ℕ} (rest : 
             enough = omega (arith, m .1, rest .enough);
             within = c;
             few = omega (arith, rest .few, one-round (recordAt s at .event), done .1);
-            same = m .2 ∙ gone-on _ at rounds _ z
+            same = m .2 ∙ event-goes-on _ at rounds _ z
                 ∙ (λ i. readEvents (m .0) (sym (l .net) i) (rounds + sym (done .1) i) (at + sym n i) (drop (sym n i) (drop at s)))
                 ∙ ap (readEvents (m .0) (view ys) (rounds + turns) (at + r .length)) (drop-drop (r .length) at s);
           },

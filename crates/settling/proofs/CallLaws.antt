@@ -7,11 +7,11 @@ use mathlib.Core.Logic.{_⊎_, inl, inr, _≢_}
 use Prim.Native.Nat.{ℕ}
 use borrow.Author.Tests.{eqb-true, eqb-false, eq-eqb}
 use Rattle.ancestors.proofs.Cases.{bool-cases}
-use Rattle.network.specs.Network.{Net, Outcome, outcome, Within}
+use Rattle.network.specs.Network.{Net, outcome, Within}
 use Rattle.network.specs.Round.{Marks, marked, everyArc, roundNumber, round as roundWith}
 use Rattle.network.specs.Change.{changed, changeNumber, gradeCost, gradeNumber}
 use Rattle.network.specs.Route.{routeOf}
-use Rattle.network.proofs.Effects.{outcome-number, outcome-same, refused-net, accepted-net, change-outcome, grade-outcome, round-outcome, full-round-outcome, round-effect, change-effect}
+use Rattle.network.proofs.Effects.{outcome-number, outcome-same, number-of, net-accepted, net-refused, change-outcome, grade-outcome, round-outcome, full-round-outcome, round-effect, change-effect}
 use Rattle.network.proofs.Keeping.{change-within, grade-within, round-within, full-round-within}
 use Rattle.records.specs.Image.{imageOf}
 use Rattle.settling.specs.Calls.{Call, change, grade, round, fullRound, route, writeImage, reads, called, accepted, after, alters, marksThen}
@@ -50,14 +50,7 @@ called-outcome x (writeImage out) = reads-outcome x (imageOf x out .number)
 
 -- and its number is the outcome's
 called-number : (x : Net) (c : Call) → called x c .number ≡ number x c
-called-number x c = ap (λ (o : Outcome). o .number) (called-outcome x c) ∙ outcome-number (number x c) (next x c) x
-
--- a refused call leaves the network
-pub called-refused : (x : Net) (c : Call) → accepted x c ≡ false → called x c .net ≡ x
-unfolding accepted
-called-refused x c e =
-    ap (λ (o : Outcome). o .net) (called-outcome x c) ∙
-    refused-net (number x c) (next x c) x (λ z. eqb-false (called x c .number) 0 e (called-number x c ∙ z))
+called-number x c = number-of (number x c) (next x c) x (called-outcome x c)
 
 -- an accepted call's number is 0, and no other's
 pub accepted-zero : (x : Net) (c : Call) → accepted x c ≡ true → called x c .number ≡ 0
@@ -68,12 +61,13 @@ pub accepted-not : (x : Net) (c : Call) → accepted x c ≡ false → called x 
 unfolding accepted
 accepted-not x c e = eqb-false (called x c .number) 0 e
 
+-- a refused call leaves the network
+pub called-refused : (x : Net) (c : Call) → accepted x c ≡ false → called x c .net ≡ x
+called-refused x c e = net-refused (number x c) (next x c) x (called-outcome x c) (λ z. accepted-not x c e (called-number x c ∙ z))
+
 -- an accepted call gives the next one
 called-accepted : (x : Net) (c : Call) → accepted x c ≡ true → called x c .net ≡ next x c
-unfolding accepted
-called-accepted x c e =
-    ap (λ (o : Outcome). o .net) (called-outcome x c) ∙
-    accepted-net (number x c) (next x c) x (sym (called-number x c) ∙ eqb-true (called x c .number) 0 e)
+called-accepted x c e = net-accepted (number x c) (next x c) x (called-outcome x c) (sym (called-number x c) ∙ accepted-zero x c e)
 
 -- a round with every arc heard is always accepted
 pub full-accepted : (x : Net) → accepted x fullRound ≡ true

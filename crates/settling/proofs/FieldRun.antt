@@ -1,12 +1,11 @@
 -- Demand 3 of document 01's own run: its calls as its bytes give them, and every row settled at its end.
 -- Assumes nothing.
 use mathlib.Core.Path.{_≡_, refl}
-use mathlib.Core.Bool.{Bool, true, false, cond, _&&_}
+use mathlib.Core.Bool.{Bool, true, false, _&&_}
 use mathlib.Core.List.{List, [], _∷_, _++_}
-use Prim.Native.Nat.{ℕ, zero, suc, _<_, _≤_}
+use Prim.Native.Nat.{ℕ, zero, suc}
 use native.Mathlib.Omega.{arith}
 use lib.Dec.{ltb}
-use lib.ListN.{replicate, getD}
 use borrow.Author.Tests.{ltb-true}
 use Rattle.ancestors.specs.Ancestors.{has, put}
 use Rattle.ancestors.proofs.Cases.{and-both}
@@ -34,8 +33,8 @@ abbrev stretch : List Call
 stretch = fullRound ∷ fullRound ∷ fullRound ∷ fullRound ∷ fullRound ∷ fullRound ∷ []
 
 -- the network that its image opens to
-abbrev image : Net
-image = openOf (fieldRun 6) .net
+abbrev opened-net : Net
+opened-net = openOf (fieldRun 6) .net
 
 -- every number of a list is a byte
 unfoldable small : List ℕ → Bool
@@ -53,10 +52,10 @@ record Facts : Type 0 where
   bytes : small (fieldRun 6) ≡ true
   opened : openOf (fieldRun 6) .number ≡ 0
   calls : runCalls (fieldRun 6) ≡ before ++ stretch
-  still : still (after image before) stretch ≡ true
-  heard : missed (after image before .nodes) 1 (after image before .cost) (rounds (after image before) stretch) ≡ false
-  nodes : image .nodes ≡ 4
-  count : roundsHeard image before stretch ≡ 6
+  still : still (after opened-net before) stretch ≡ true
+  heard : missed (after opened-net before .nodes) 1 (after opened-net before .cost) (rounds (after opened-net before) stretch) ≡ false
+  nodes : opened-net .nodes ≡ 4
+  count : roundsHeard opened-net before stretch ≡ 6
 
 facts : Facts
 unfolding has put sizeFault nodeFault pairFault costFault gradeFault setAt setPair withCost withRow withHeld outcome freshNet freshNumber freshOf
@@ -69,6 +68,6 @@ facts = record { bytes = refl; opened = refl; calls = refl; still = refl; heard 
 pub field-settles : AllSettled (runOf (fieldRun 6) .net)
 field-settles =
     let by = bytes-by (fieldRun 6) (facts .bytes) in
-    let w = after-within image (open-within (fieldRun 6) by) before in
+    let w = after-within opened-net (open-within (fieldRun 6) by) before in
     run-settles (fieldRun 6) by (facts .opened) before stretch 1 (facts .calls)
-    (supposed-by image before stretch 1 (omega arith) w (facts .still) (facts .heard)) .settled (omega (arith, facts .count, facts .nodes))
+    (supposed-by opened-net before stretch 1 (omega arith) w (facts .still) (facts .heard)) .settled (omega (arith, facts .count, facts .nodes))

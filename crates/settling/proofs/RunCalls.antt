@@ -2,14 +2,14 @@
 -- Assumes nothing.
 use mathlib.Core.Path.{_≡_, refl, sym, ap, subst, _∙_}
 use mathlib.Core.Bool.{Bool, true, false, cond}
-use mathlib.Core.List.{List, [], _∷_, _++_}
+use mathlib.Core.List.{List, [], _∷_}
 use mathlib.Core.Logic.{_⊎_, inl, inr, _≢_}
 use Prim.Native.Nat.{ℕ, zero, suc, _+_, _<_, _≤_}
 use native.Mathlib.Omega.{arith}
 use native.Mathlib.Nat.{zero-add}
 use lib.Dec.{ltb}
 use lib.ListN.{length, drop, length-drop}
-use borrow.Author.Tests.{eq-eqb, ne-eqb}
+use borrow.Author.Tests.{eq-eqb}
 use Rattle.ancestors.proofs.Cases.{bool-cases, eq-or-ne, never, cond-by}
 use Rattle.network.specs.Faults.{gradeFault}
 use Rattle.network.specs.Network.{Net, Outcome, outcome, Within}
@@ -17,17 +17,17 @@ use Rattle.network.specs.Change.{gradeCost}
 use Rattle.network.proofs.Effects.{outcome-number, outcome-same}
 use Rattle.network.specs.Round.{Marks, marked}
 use Rattle.records.specs.Numbers.{Bytes}
-use Rattle.records.specs.Records.{bodyLength, arcChange, gradeChange, eventOf, asEvent, allowed, bodyOf, refusedRecord, bodied, recordOf}
+use Rattle.records.specs.Records.{bodyLength, recordLength, arcChange, gradeChange, eventOf, asEvent, allowed, bodyOf, refusedRecord, bodied, recordOf}
 use Rattle.records.specs.Opening.{openOf}
 use Rattle.records.specs.Running.{eventDone, roundsIn, Running, afterEvent, readEvents, runOf}
 use Rattle.records.specs.declared.Event.{Event}
 use Rattle.records.specs.declared.Event.the-variants.{Change, Refusal}
 use Rattle.records.specs.declared.Record.{Record}
-use Rattle.records.proofs.Reading.{wholeRecord, kind-small, by-kind}
+use Rattle.records.proofs.Reading.{wholeRecord, kind-small, by-kind, clash}
 use Rattle.records.proofs.Grading.{change-record, grade-record}
-use Rattle.records.proofs.Begun.{run-refused, run-opened}
+use Rattle.records.proofs.Begun.{run-refused, run-opened, event-stops, event-goes-on}
 use Rattle.records.proofs.Opened.{open-within}
-use Rattle.settling.specs.Calls.{Call, change, grade, round, fullRound, route, writeImage, called, accepted, after, marksThen, rounds, Supposed, atEnd, roundsHeard, Promises}
+use Rattle.settling.specs.Calls.{Call, change, grade, round, fullRound, route, writeImage, called, accepted, after, marksThen, rounds, atEnd, roundsHeard, Promises}
 use Rattle.settling.specs.RunCalls.{eventCall, Events, ended, malformed, event, eventsIn, runEvents, callsOf, Stop, stopOf, runCalls, RunIsCalls, RunSettles}
 use Rattle.settling.proofs.CallLaws.{accepted-zero, accepted-not, full-accepted, after-within, after-append}
 use Rattle.settling.proofs.Theorem.{open-answers, demand3}
@@ -52,9 +52,6 @@ same-done x at b =
     (λ _. record { done = change-record x b _ _ _; counted = λ _. refl }) clash clash
     (λ _. record { done = refl; counted = λ z. rw (eq-eqb _ 0 z) }) (λ _. record { done = refl; counted = λ _. refl })
     (λ _. record { done = grade-record x b at _ _ _; counted = λ _. no-round at _ _ _ })
-  where
-    clash : {A : Type 0} → false ≡ true → A
-    clash e = never false e refl
 
 -- the marks of a call are put before the others
 marks-long : (x : Net) (c : Call) (ms : List Marks) → length (marksThen x c ms) ≡ length (marksThen x c []) + length ms
@@ -93,23 +90,13 @@ by-none : (x : Net) (n : ℕ) → AnswersBy x n ended (record { number = 0; plac
 unfolding callsOf stopOf after rounds
 by-none x n = record { net = refl; counted = omega arith; number = refl; place = refl }
 
--- after an event
-module _ (go : Net → Running) (at n : ℕ) (o : Outcome) where
-  after-stop : o .number ≢ 0 → afterEvent go at n o ≡ record { number = o .number; place = at; rounds = n; net = o .net }
-  unfolding afterEvent
-  after-stop h = rw (ne-eqb (o .number) 0 h)
-
-  after-more : o .number ≡ 0 → afterEvent go at n o ≡ go (o .net)
-  unfolding afterEvent
-  after-more h = rw (eq-eqb (o .number) 0 h)
-
 -- a record that is no event
 by-malformed : (go : Net → Running) (x : Net) (b : List ℕ) (n at e : ℕ) → e ≢ 0 →
     AnswersBy x n (malformed e at) (afterEvent go at n (eventDone x b (Refusal e at)))
 unfolding callsOf stopOf after rounds eventDone
 by-malformed go x b n at e h =
     let k = outcome-number e x x in
-    rw (after-stop go at n (outcome e x x) (λ z. h (sym k ∙ z)))
+    rw (event-stops go at n (outcome e x x) (λ z. h (sym k ∙ z)))
     (record { net = outcome-same e x; counted = omega arith; number = k; place = refl })
 
 -- the calls of an event and those after it, and where they stop
@@ -144,7 +131,7 @@ by-call go x b n at e c es same again =
         let calls = sym (calls-more x at c es t) in
         let stop = sym (stop-later x at c es t) in
         let more = marks-long x c (rounds (called x c .net) (callsOf (called x c .net) es)) in
-        rw (after-more go at n (called x c) z)
+        rw (event-goes-on go at n (called x c) z)
         (record {
           net = ih .net ∙ ap (after x) calls;
           counted = omega (arith, ih .counted, same .counted z, more, ap (λ (cs : List Call). length (rounds x cs)) calls);
@@ -154,7 +141,7 @@ by-call go x b n at e c es same again =
     cases (inr t) =
         let calls = sym (calls-stop x at c es t) in
         let stop = sym (stop-here x at c es t) in
-        rw (after-stop go at n (called x c) (accepted-not x c t))
+        rw (event-stops go at n (called x c) (accepted-not x c t))
         (record {
           net = ap (after x) calls;
           counted = omega (arith, ap length (refused-marks x c t), ap (λ (cs : List Call). length (rounds x cs)) calls);
@@ -174,7 +161,7 @@ events-as (suc k) x n at (kind ∷ b) = go (allowed asEvent kind) (ltb (length b
         (eventDone x (bodyOf kind b) (r .event))
 
     rest : Events
-    rest = eventsIn k (at + suc (bodyLength kind)) (drop (suc (bodyLength kind)) (kind ∷ b))
+    rest = eventsIn k (at + recordLength kind) (drop (recordLength kind) (kind ∷ b))
 
     go : (t u : Bool) → allowed asEvent kind ≡ t →
         ((x : Net) (n at : ℕ) (bs : List ℕ) → AnswersBy x n (eventsIn k at bs) (readEvents k x n at bs)) →

@@ -8,7 +8,7 @@ use lib.Dec.{eqb, ltb}
 use lib.ListN.{length, drop}
 use Rattle.network.specs.Network.{Net}
 use Rattle.records.specs.Numbers.{Bytes, num8, num16, words}
-use Rattle.records.specs.Records.{bodyLength, asEvent, allowed, bodyOf}
+use Rattle.records.specs.Records.{bodyLength, recordLength, asEvent, allowed, bodyOf}
 use Rattle.records.specs.Opening.{openOf}
 use Rattle.records.specs.Running.{runOf}
 use Rattle.settling.specs.Calls.{Call, change, grade, round, fullRound, called, accepted, after, rounds, Supposed, roundsHeard, Promises}
@@ -38,7 +38,7 @@ eventsIn (suc k) at [] = ended
 eventsIn (suc k) at (kind ∷ b) =
     cond (allowed asEvent kind)
     (cond (ltb (length b) (bodyLength kind)) (malformed 1 at)
-    (event at (eventCall kind (bodyOf kind b)) (eventsIn k (at + suc (bodyLength kind)) (drop (suc (bodyLength kind)) (kind ∷ b)))))
+    (event at (eventCall kind (bodyOf kind b)) (eventsIn k (at + recordLength kind) (drop (recordLength kind) (kind ∷ b)))))
     (malformed 2 at)
 
 -- the events of a run: what follows its image; an event has at least one byte
