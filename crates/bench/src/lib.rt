@@ -1,17 +1,56 @@
-// The calls under C names, for the benchmark in bench/ and the comparison in tests/. A change, a grade and a round are the call itself, with its
+// The calls under C names, for the benchmark in bench/ and the comparisons in tests/. Where the answer is a number it is the call itself, with its
 // contract; the others hand out the answer in lent words.
+use memory::CostRead;
+use memory::HeldRead;
 use memory::Network;
+use memory::RowRead;
+ghost use mathlib.Core.Path.{_≡_};
+ghost use Rattle.network.specs.Network.{freshOf};
+ghost use Rattle.network.specs.Placing.{placeRowOf, placeReportOf};
 ghost use Rattle.network.specs.Round.{roundOf, fullRoundOf};
 ghost use Rattle.network.specs.Change.{changeOf, gradeOf};
 ghost use Rattle.memory.specs.Layout.{view};
-ghost use Rattle.memory.specs.Answers.{Leaves};
+ghost use Rattle.memory.specs.Answers.{Leaves, Starts, readRow, rowMeans, readCost, costMeans, readHeld, heldMeans};
 ghost use lib.ListN.{getD};
 ghost use Rattle.network.specs.Route.{routeOf};
 ghost use Rattle.records.specs.Image.{imageOf};
 ghost use Rattle.records.specs.Opening.{openOf};
 ghost use Rattle.records.specs.Running.{runOf};
 ghost use Rattle.opening.specs.Answers.{Opens};
-ghost use Rattle.bench.specs.Handed.{RunsTo, WritesTo};
+ghost use Rattle.bench.specs.Handed.{RunsTo, WritesTo, rowWords, costWords, heldWords};
+
+#[no_mangle]
+pub extern "C" fn bench_fresh(net: &mut Network, n: u32, origin: u32) -> u8
+    ensures { λ k. ⌜ Starts (freshOf n origin) k (now (net .exit)) ⌝ }
+{
+    memory::make_fresh(net, n, origin)
+}
+
+#[no_mangle]
+pub extern "C" fn bench_place_row(
+    net: &mut Network,
+    node: u32,
+    label: u32,
+    predecessor: u32,
+    list: u32,
+) -> u8
+    ensures { λ k. ⌜ Leaves (placeRowOf (view (now (net .entry))) node label predecessor list) k (now (net .entry)) (now (net .exit)) ⌝ }
+{
+    memory::place_row(net, node, label, predecessor, list)
+}
+
+#[no_mangle]
+pub extern "C" fn bench_place_report(
+    net: &mut Network,
+    sender: u32,
+    receiver: u32,
+    label: u32,
+    list: u32,
+) -> u8
+    ensures { λ k. ⌜ Leaves (placeReportOf (view (now (net .entry))) sender receiver label list) k (now (net .entry)) (now (net .exit)) ⌝ }
+{
+    memory::place_report(net, sender, receiver, label, list)
+}
 
 #[no_mangle]
 pub extern "C" fn bench_change(net: &mut Network, sender: u32, receiver: u32, cost: u32) -> u8
@@ -58,13 +97,11 @@ pub extern "C" fn bench_open(input: &[u8], answer: &mut [u64; 3], net: &mut Netw
 pub extern "C" fn bench_run(input: &[u8], answer: &mut [u64; 3], net: &mut Network)
     ensures { λ _. ⌜ RunsTo (runOf (now (input .entry))) (now (answer .exit)) (now (net .exit)) ⌝ }
 {
-    let ran = running::run(input);
-    let found = ran.net;
+    let end = running::run_into(net, input);
     let all: &mut [u64] = answer;
-    all[0] = ran.number as u64;
-    all[1] = ran.place as u64;
-    all[2] = ran.rounds as u64;
-    *net = found;
+    all[0] = end.number as u64;
+    all[1] = end.place as u64;
+    all[2] = end.rounds as u64;
 }
 
 // Image writing: number and bytes written in answer.
@@ -75,7 +112,7 @@ pub extern "C" fn bench_image(net: &Network, out: &mut [u8], answer: &mut [u64; 
     let written = image::write_image(net, out);
     let all: &mut [u64] = answer;
     all[0] = written.number as u64;
-    all[1] = written.length as u64;
+    all[1] = written.used as u64;
 }
 
 // A route: number and bytes written in answer.
@@ -86,5 +123,69 @@ pub extern "C" fn bench_route(net: &Network, node: u32, out: &mut [u8], answer: 
     let written = route::route(net, node, out);
     let all: &mut [u64] = answer;
     all[0] = written.number as u64;
-    all[1] = written.length as u64;
+    all[1] = written.used as u64;
+}
+
+// ---- reading
+
+fn row_words(read: RowRead) -> [u64; 5]
+    ensures { λ r. ⌜ r ≡ rowWords (rowMeans read) ⌝ }
+{
+    match read {
+        RowRead::Refused => [3, 0, 32, 0, 0],
+        RowRead::NoRoute => [0, 0, 32, 0, 0],
+        RowRead::Origin { list, hops } => [0, 0, 32, list as u64, hops as u64],
+        RowRead::Route {
+            label,
+            predecessor,
+            list,
+            hops,
+        } => [
+            0,
+            label as u64,
+            predecessor as u64,
+            list as u64,
+            hops as u64,
+        ],
+    }
+}
+
+// A row: number, label, predecessor, list and hops in answer.
+#[no_mangle]
+pub extern "C" fn bench_row(net: &Network, node: u32, answer: &mut [u64; 5])
+    ensures { λ _. ⌜ now (answer .exit) ≡ rowWords (readRow (view (now (net .entry))) node) ⌝ }
+{
+    *answer = row_words(memory::row(net, node));
+}
+
+fn cost_words(read: CostRead) -> [u64; 2]
+    ensures { λ r. ⌜ r ≡ costWords (costMeans read) ⌝ }
+{
+    [read.number as u64, read.cost as u64]
+}
+
+// A pair's cost: number and cost in answer.
+#[no_mangle]
+pub extern "C" fn bench_cost(net: &Network, sender: u32, receiver: u32, answer: &mut [u64; 2])
+    ensures { λ _. ⌜ now (answer .exit) ≡ costWords (readCost (view (now (net .entry))) sender receiver) ⌝ }
+{
+    *answer = cost_words(memory::arc_cost(net, sender, receiver));
+}
+
+fn held_words(read: HeldRead) -> [u64; 3]
+    ensures { λ r. ⌜ r ≡ heldWords (heldMeans read) ⌝ }
+{
+    match read {
+        HeldRead::Refused => [3, 0, 0],
+        HeldRead::Empty => [0, 0, 0],
+        HeldRead::Report { label, list } => [0, label as u64, list as u64],
+    }
+}
+
+// A held report: number, label and list in answer.
+#[no_mangle]
+pub extern "C" fn bench_held(net: &Network, sender: u32, receiver: u32, answer: &mut [u64; 3])
+    ensures { λ _. ⌜ now (answer .exit) ≡ heldWords (readHeld (view (now (net .entry))) sender receiver) ⌝ }
+{
+    *answer = held_words(memory::held(net, sender, receiver));
 }

@@ -3,6 +3,7 @@
 use mathlib.Core.Path.{_≡_, refl, sym, ap, _∙_}
 use mathlib.Core.List.{List, [], _∷_, _++_, append-assoc, append-nil}
 use Prim.Native.Nat.{ℕ, _+_, _-_, _≤_}
+use native.Mathlib.Nat.{zero-add}
 use native.Mathlib.Omega.{arith}
 use lib.ListN.{length, take, drop, set, length-append, length-drop, take-append-drop, drop-of-length-le}
 use lib.Seq.{length-take-le, take-at, drop-at, take-all, drop-drop}
@@ -121,3 +122,21 @@ added-on {w} {v} {e} {x} {y} {a} {b} {k} h g =
       place = omega (arith, h .place, g .place, length-append w v);
       left = wrote-on (added-wrote h) g .left ∙ simp append-assoc;
     }
+
+-- ---- bytes written in the rest of an output, which is lent from a place on
+
+-- there is room for the same bytes in other words
+pub place-room : {s w : List ℕ} {k m : ℕ} (a : ℕ) → s ≡ w → length w ≡ k → a + length s ≤ m → a + k ≤ m
+place-room a p q h = omega (arith, ap length p)
+
+module _ (e : List ℕ) (a : ℕ) (within : a ≤ length e) where
+  pub rest-room : (k : ℕ) → a + k ≤ length e → k ≤ length (take (length e - a) (drop a e))
+  rest-room k h = added-room k (added-none {w = []} e a refl within) h
+
+  pub rest-added : {v y : List ℕ} {k : ℕ} → Wrote v (take (length e - a) (drop a e)) y k
+      → Added v e (take a e ++ (y ++ drop (length e - a) (drop a e))) a (a + k)
+  rest-added h = added-then (added-none {w = []} e a refl within) h
+
+-- from the first place on
+pub added-front : {w e x : List ℕ} {b : ℕ} → Added w e x 0 b → Wrote w e x b
+added-front h = record { used = h .place ∙ zero-add _; left = h .left }

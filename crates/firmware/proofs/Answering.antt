@@ -6,6 +6,7 @@ use mathlib.Core.List.{List}
 use Prim.Native.Nat.{ℕ, _*_, _/_, _%_, _<_, _≤_}
 use native.Mathlib.Omega.{arith}
 use lib.ListN.{length, drop}
+use Rattle.network.specs.Faults.{maxRefusal}
 use Rattle.ancestors.proofs.Cases.{eq-or-ne, le-or-lt}
 use Rattle.records.specs.Numbers.{Bytes}
 use Rattle.records.specs.Image.{image, maxImage}
@@ -38,7 +39,7 @@ length-part : (k : ℕ) → 32 * k / 32 ≡ k
 length-part k = omega arith
 
 module _ (run out : List ℕ) where
-  told : (number place : ℕ) → 0 < number → number ≤ 7 → place ≤ length run → callOf run out ≡ record { answer = refusedAnswer number place; output = out }
+  told : (number place : ℕ) → 0 < number → number ≤ maxRefusal → place ≤ length run → callOf run out ≡ record { answer = refusedAnswer number place; output = out }
       → CallIs run out (callOf run out)
   told number place a b p e =
       refused number place a b p (ap (λ (o : Called). o .answer % 32) e ∙ number-part number place (omega arith))

@@ -104,22 +104,22 @@ module _ (run out : List ℕ) where
               })
 
       -- an image's length is that of any network at most
-      pub length-small : w .length ≤ fullImage maxNodes
+      pub length-small : w .used ≤ fullImage maxNodes
       length-small = go (le-or-lt (length (image (runOf run .net))) (length out))
         where
-          go : (length (image (runOf run .net)) ≤ length out) ⊎ (length out < length (image (runOf run .net))) → w .length ≤ fullImage maxNodes
+          go : (length (image (runOf run .net)) ≤ length out) ⊎ (length out < length (image (runOf run .net))) → w .used ≤ fullImage maxNodes
           go (inl h) =
-              omega (arith, written .length, ap (λ (v : Writing). v .length) (image-fits (runOf run .net) out h), image-any (runOf run .net))
-          go (inr h) = omega (arith, written .length, ap (λ (v : Writing). v .length) (image-short (runOf run .net) out h))
+              omega (arith, written .used, ap (λ (v : Writing). v .used) (image-fits (runOf run .net) out h), image-any (runOf run .net))
+          go (inr h) = omega (arith, written .used, ap (λ (v : Writing). v .used) (image-short (runOf run .net) out h))
 
-      pub answers-written : w .number ≡ 0 → Answers (callOf run out) (w .length * 32) exit
+      pub answers-written : w .number ≡ 0 → Answers (callOf run out) (w .used * 32) exit
       answers-written z = go (le-or-lt (length (image (runOf run .net))) (length out))
         where
           go : (length (image (runOf run .net)) ≤ length out) ⊎ (length out < length (image (runOf run .net)))
-              → Answers (callOf run out) (w .length * 32) exit
+              → Answers (callOf run out) (w .used * 32) exit
           go (inl h) =
               let s = image-fits (runOf run .net) out h in
-              let l : w .length ≡ length (image (runOf run .net)) = written .length ∙ ap (λ (v : Writing). v .length) s in
+              let l : w .used ≡ length (image (runOf run .net)) = written .used ∙ ap (λ (v : Writing). v .used) s in
               answers-as (call-written run out short accepted h) (record { answer = omega (arith, l); output = written .output ∙ ap (λ (v : Writing). v .output) s })
           go (inr h) =
               let y : _≡_ {A = ℕ} 0 6 = sym z ∙ written .number ∙ ap (λ (v : Writing). v .number) (image-short (runOf run .net) out h) in

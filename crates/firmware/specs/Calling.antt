@@ -6,6 +6,7 @@ use mathlib.Core.List.{List, _++_}
 use Prim.Native.Nat.{ℕ, _+_, _*_, _/_, _%_, _<_, _≤_}
 use lib.Dec.{eqb, ltb}
 use lib.ListN.{length, drop}
+use Rattle.network.specs.Faults.{maxRefusal}
 use Rattle.network.specs.Writing.{Writing}
 use Rattle.records.specs.Image.{image, imageOf}
 use Rattle.records.specs.Running.{Running, runOf}
@@ -29,7 +30,7 @@ refusedCall number place out = record { answer = refusedAnswer number place; out
 
 -- the image written, 32 times its length; an image that does not fit is refused at place 0
 unfoldable pub imageCall : Writing → List ℕ → Called
-imageCall w out = cond (eqb (w .number) 0) (record { answer = 32 * w .length; output = w .output }) (refusedCall (w .number) 0 out)
+imageCall w out = cond (eqb (w .number) 0) (record { answer = 32 * w .used; output = w .output }) (refusedCall (w .number) 0 out)
 
 -- the resulting image of a run, or its refusal
 unfoldable pub runCall : Running → List ℕ → Called
@@ -46,10 +47,10 @@ pub record Answers (o : Called) (r : ℕ) (exit : List ℕ) : Type 0 where
 
 -- ---- what an answer tells
 
--- the call is refused, with a number from 1 to 7 and a place within the run, and nothing is written; or the run was accepted to its end and
+-- the call is refused, with a number from 1 to `maxRefusal` and a place within the run, and nothing is written; or the run was accepted to its end and
 -- the image of its network is written
 pub data CallIs (run out : List ℕ) (o : Called) : Type 0 where
-  refused : (number place : ℕ) → 0 < number → number ≤ 7 → place ≤ length run → o .answer % 32 ≡ number → o .answer / 32 ≡ place → o .output ≡ out
+  refused : (number place : ℕ) → 0 < number → number ≤ maxRefusal → place ≤ length run → o .answer % 32 ≡ number → o .answer / 32 ≡ place → o .output ≡ out
       → CallIs run out o
   written : runOf run .number ≡ 0 → o .answer % 32 ≡ 0 → o .answer / 32 ≡ length (image (runOf run .net))
       → o .output ≡ image (runOf run .net) ++ drop (length (image (runOf run .net))) out → CallIs run out o

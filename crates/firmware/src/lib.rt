@@ -34,5 +34,5 @@ pub extern "C" fn gerqalli_run(run: &[u8], out: &mut [u8]) -> u64
     if written.number != 0 {
         return refusal(written.number, 0);
     }
-    written.length as u64 * 32
+    written.used as u64 * 32
 }

@@ -12,11 +12,11 @@ use Rattle.filling.specs.Filling.{Wrote}
 
 module _ (x : Net) (out : List ℕ) where
   -- refused
-  pub answers-short : length out < length (image x) → Writes (imageOf x out) (record { number = 6; length = 0 }) out
-  answers-short h = rw (image-short x out h) (record { number = refl; length = refl; output = refl })
+  pub answers-short : length out < length (image x) → Writes (imageOf x out) (record { number = 6; used = 0 }) out
+  answers-short h = rw (image-short x out h) (record { number = refl; used = refl; output = refl })
 
   -- accepted
   pub answers-fits : {r : ℕ} {exit : List ℕ} → length (image x) ≤ length out → Wrote (image x) out exit r
-      → Writes (imageOf x out) (record { number = 0; length = r }) exit
+      → Writes (imageOf x out) (record { number = 0; used = r }) exit
   answers-fits h w =
-      rw (image-fits x out h) (record { number = refl; length = w .used; output = w .left ∙ ap (λ (k : ℕ). image x ++ drop k out) (w .used) })
+      rw (image-fits x out h) (record { number = refl; used = w .used; output = w .left ∙ ap (λ (k : ℕ). image x ++ drop k out) (w .used) })

@@ -6,15 +6,15 @@ use mathlib.Core.List.{List, [], _++_, append-assoc, append-nil}
 use Prim.Native.Nat.{ℕ, _+_, _-_, _≤_}
 use native.Mathlib.Omega.{arith}
 use lib.ListN.{length, length-append}
-use Rattle.network.specs.Faults.{nodeFault, pairFault}
+use Rattle.network.specs.Faults.{maxNodes, nodeFault, pairFault}
 use Rattle.network.specs.Network.{Net}
 use Rattle.network.proofs.FaultLaws.{node-bad, sender-bad, receiver-bad}
-use Rattle.records.specs.Records.{endRecord, headerRecord}
+use Rattle.records.specs.Records.{bodyLength, recordLength, endRecord, headerRecord}
 use Rattle.records.specs.Image.{each, arcBytes, rowBytes, reportBytes, byNode, byPair, image}
 use Rattle.records.proofs.Each.{each-same, each-split, each-none}
 use Rattle.records.proofs.Sizes.{end-long, header-long}
 use Rattle.filling.specs.Filling.{Wrote}
-use Rattle.image.specs.Lines.{arcAt, rowAt, reportAt, recordAt, line, lines}
+use Rattle.image.specs.Lines.{arcAt, rowAt, reportAt, recordAt, recordLine, recordLines}
 
 -- without the numbers from n on, which have no bytes
 each-cut : (f : ℕ → List ℕ) (n d : ℕ) → n ≤ d → ((i : ℕ) → n ≤ i → f i ≡ []) → each f 0 d ≡ each f 0 n
@@ -41,23 +41,25 @@ module _ (n : ℕ) (l : ℕ → ℕ → List ℕ) (s r : ℕ) where
 node-none : (n y : ℕ) (l : List ℕ) → n ≤ y → cond (nodeFault n y) [] l ≡ []
 node-none n y l h = rw (node-bad n y h)
 
-module _ (x : Net) (n o : ℕ) (nodes : n ≡ x .nodes) (origin : o ≡ x .origin) (few : x .nodes ≤ 32) where
+module _ (x : Net) (n o : ℕ) (nodes : n ≡ x .nodes) (origin : o ≡ x .origin) (few : x .nodes ≤ maxNodes) where
   -- the records of the nodes below n, each after those before it
-  pub image-parts : image x ≡ (((headerRecord n o ++ lines x 2 n) ++ line x 3 n 0) ++ lines x 4 n) ++ endRecord
+  pub image-parts : image x ≡ (((headerRecord n o ++ recordLines x 2 n) ++ recordLine x 3 n 0) ++ recordLines x 4 n) ++ endRecord
   unfolding image byPair byNode arcAt rowAt reportAt recordAt
   image-parts =
       let m = x .nodes in
       let arc : ℕ → ℕ → List ℕ = λ s r. arcBytes s r (x .cost s r) in
       let report : ℕ → ℕ → List ℕ = λ s r. reportBytes s r (x .held s r) in
-      let a = pairs-cut (arcAt x) m 32 few (sender-none m arc) (receiver-none m arc) in
-      let b = each-cut (rowAt x) m 32 few (λ y. node-none m y (rowBytes y (x .row y))) in
-      let c = pairs-cut (reportAt x) m 32 few (sender-none m report) (receiver-none m report) in
+      let a = pairs-cut (arcAt x) m maxNodes few (sender-none m arc) (receiver-none m arc) in
+      let b = each-cut (rowAt x) m maxNodes few (λ y. node-none m y (rowBytes y (x .row y))) in
+      let c = pairs-cut (reportAt x) m maxNodes few (sender-none m report) (receiver-none m report) in
       rw (nodes, origin, a, b, c) (simp append-assoc)
 
   -- their lengths
-  pub image-long : length (image x) ≡ 3 + length (lines x 2 n) + length (line x 3 n 0) + length (lines x 4 n) + 1
+  pub image-long : length (image x) ≡ recordLength 1 + length (recordLines x 2 n) + length (recordLine x 3 n 0) + length (recordLines x 4 n) + recordLength 0
+  unfolding bodyLength
   image-long = ap length image-parts ∙ simp (length-append, header-long, end-long)
 
--- the first record ends at 3
-pub header-end : (n o : ℕ) {a : ℕ} {e y : List ℕ} → Wrote (headerRecord n o) e y a → a ≡ 3
+-- where the first record ends
+pub header-end : (n o : ℕ) {a : ℕ} {e y : List ℕ} → Wrote (headerRecord n o) e y a → a ≡ recordLength 1
+unfolding bodyLength
 header-end n o h = h .used ∙ header-long n o

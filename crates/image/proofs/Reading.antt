@@ -32,13 +32,13 @@ module _ (x : Net) (s r : ℕ) (c : CostRead) (said : costMeans c ≡ readCost x
   arc-bytes = ⊎-elim (λ f. rw (said-no-cost x s r c said f, f)) (λ f. rw (said-cost x s r c said f, f)) (bool-cases (pairFault (x .nodes) s r))
 
   -- there is a record where the cost is not 0
-  pub arc-none : c .cost ≡ 0 → arcAt x s r ≡ []
+  pub arc-unwritten : c .cost ≡ 0 → arcAt x s r ≡ []
   unfolding arcBytes
-  arc-none e = arc-bytes ∙ rw (eq-eqb (c .cost) 0 e)
+  arc-unwritten e = arc-bytes ∙ rw (eq-eqb (c .cost) 0 e)
 
-  pub arc-some : (c .cost ≡ 0 → ⊥) → arcAt x s r ≡ arcRecord s r (c .cost)
+  pub arc-written : (c .cost ≡ 0 → ⊥) → arcAt x s r ≡ arcRecord s r (c .cost)
   unfolding arcBytes
-  arc-some e = arc-bytes ∙ rw (ne-eqb (c .cost) 0 e)
+  arc-written e = arc-bytes ∙ rw (ne-eqb (c .cost) 0 e)
 
 -- ---- a row
 

@@ -1,15 +1,15 @@
 -- Bytes stored one by one at the front of a part, in the order of the record writers.
 -- Assumes nothing.
-use mathlib.Core.Path.{_≡_, refl, ap}
-use mathlib.Core.List.{List, [], _∷_, _++_}
-use Prim.Native.Nat.{ℕ, zero, suc, _+_, _-_, _%_, _≤_}
+use mathlib.Core.Path.{_≡_, refl}
+use mathlib.Core.List.{List, [], _∷_}
+use Prim.Native.Nat.{ℕ, zero, suc, _+_, _%_, _≤_}
 use native.Mathlib.Omega.{arith}
-use lib.ListN.{length, take, drop, set}
+use lib.ListN.{length, set}
 use lib.Seq.{sets}
 use Rattle.records.specs.Numbers.{be8, be16, be32}
-use Rattle.records.specs.Records.{rowRecord, reportRecord}
-use Rattle.filling.specs.Filling.{Wrote, Added}
-use Rattle.filling.proofs.Parts.{added-none, added-room, added-then}
+use Rattle.records.specs.Records.{bodyLength, recordLength, rowRecord, reportRecord}
+use Rattle.filling.specs.Filling.{Wrote}
+use Rattle.image.specs.Items.{longStored, Stored}
 
 -- four numbers stored from a place on
 pub four : (e : List ℕ) (at a b c d : ℕ) → set (set (set (set e at a) (at + 1) b) (at + 2) c) (at + 3) d ≡ sets e at (a ∷ b ∷ c ∷ d ∷ [])
@@ -46,38 +46,28 @@ module _ (a b c d f : ℕ) where
   stored-five e h = five (front 5 e h)
 
 -- eleven bytes, of which two numbers of four first
-module _ (y d p l : ℕ) where
-  abbrev row : List ℕ → List ℕ
-  row x = set (set (set x 0 3) 1 (y % 256)) 6 (p % 256)
+pub long-stored : (e : List ℕ) (kind y at d b o l : ℕ) {f g : List ℕ} → f ≡ sets e at (be32 d) → g ≡ sets f 7 (be32 l)
+    → set (set (set g 0 kind) 1 (y % 256)) b (o % 256) ≡ longStored e kind y at d b o l
+long-stored e kind y at d b o l p q = rw (q, p)
 
-  eleven-row : {e : List ℕ} → Front 11 e → Wrote (rowRecord y d p l) e (row (sets (sets e 2 (be32 d)) 7 (be32 l))) 11
+-- the same bytes, left and counted otherwise
+wrote-left : {w e x y : List ℕ} {k r : ℕ} → x ≡ y → r ≡ k → Wrote w e y k → Wrote w e x r
+wrote-left p q h = rw (p, q) h
+
+module _ (a b c d : ℕ) where
+  eleven-row : {e : List ℕ} → Front 11 e → Wrote (rowRecord a b c d) e (longStored e 3 a 2 b 6 c d) 11
   unfolding rowRecord be32 be16 be8
   eleven-row (more (more (more (more (more (more (more (more (more (more (more none))))))))))) = record { used = refl; left = refl }
 
-  pub stored-row : (e a b : List ℕ) → 11 ≤ length e → a ≡ sets e 2 (be32 d) → b ≡ sets a 7 (be32 l) → Wrote (rowRecord y d p l) e (row b) 11
-  stored-row e a b m f g = rw (g, f) (eleven-row (front 11 e m))
-
-module _ (s r d l : ℕ) where
-  abbrev report : List ℕ → List ℕ
-  report x = set (set (set x 0 4) 1 (s % 256)) 2 (r % 256)
-
-  eleven-report : {e : List ℕ} → Front 11 e → Wrote (reportRecord s r d l) e (report (sets (sets e 3 (be32 d)) 7 (be32 l))) 11
+  eleven-report : {e : List ℕ} → Front 11 e → Wrote (reportRecord a b c d) e (longStored e 4 a 3 c 2 b d) 11
   unfolding reportRecord be32 be16 be8
   eleven-report (more (more (more (more (more (more (more (more (more (more (more none))))))))))) = record { used = refl; left = refl }
 
-  pub stored-report : (e a b : List ℕ) → 11 ≤ length e → a ≡ sets e 3 (be32 d) → b ≡ sets a 7 (be32 l) → Wrote (reportRecord s r d l) e (report b) 11
-  stored-report e a b m f g = rw (g, f) (eleven-report (front 11 e m))
+  module _ (e : List ℕ) (room : recordLength 3 ≤ length e) where
+    pub stored-row : {x : List ℕ} {r : ℕ} → Stored (longStored e 3 a 2 b 6 c d) x (recordLength 3) r → Wrote (rowRecord a b c d) e x r
+    unfolding bodyLength
+    stored-row h = wrote-left (h .left) (h .used) (eleven-row (front 11 e room))
 
--- ---- a record in the rest of an output, which is lent from a place on
-
--- there is room for the same bytes in other words
-pub place-room : {s w : List ℕ} {k m : ℕ} (a : ℕ) → s ≡ w → length w ≡ k → a + length s ≤ m → a + k ≤ m
-place-room a p q h = omega (arith, ap length p)
-
-module _ (e : List ℕ) (a : ℕ) (within : a ≤ length e) where
-  pub rest-room : (k : ℕ) → a + k ≤ length e → k ≤ length (take (length e - a) (drop a e))
-  rest-room k h = added-room k (added-none {w = []} e a refl within) h
-
-  pub rest-added : {v y : List ℕ} {k : ℕ} → Wrote v (take (length e - a) (drop a e)) y k
-      → Added v e (take a e ++ (y ++ drop (length e - a) (drop a e))) a (a + k)
-  rest-added h = added-then (added-none {w = []} e a refl within) h
+    pub stored-report : {x : List ℕ} {r : ℕ} → Stored (longStored e 4 a 3 c 2 b d) x (recordLength 3) r → Wrote (reportRecord a b c d) e x r
+    unfolding bodyLength
+    stored-report h = wrote-left (h .left) (h .used) (eleven-report (front 11 e room))

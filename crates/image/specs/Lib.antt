@@ -1,2 +1,3 @@
-pub mod Measured
+pub mod Items
 pub mod Lines
+pub mod Measured

@@ -23,9 +23,9 @@ unfoldable pub recordAt : Net → ℕ → ℕ → ℕ → List ℕ
 recordAt x kind s i = cond (eqb kind 2) (arcAt x s i) (cond (eqb kind 3) (rowAt x i) (reportAt x s i))
 
 -- the records of a kind of sender s to the receivers below n, or those of the nodes below n
-abbrev pub line : Net → ℕ → ℕ → ℕ → List ℕ
-line x kind n s = each (recordAt x kind s) 0 n
+abbrev pub recordLine : Net → ℕ → ℕ → ℕ → List ℕ
+recordLine x kind n s = each (recordAt x kind s) 0 n
 
 -- those of the senders below n
-abbrev pub lines : Net → ℕ → ℕ → List ℕ
-lines x kind n = each (line x kind n) 0 n
+abbrev pub recordLines : Net → ℕ → ℕ → List ℕ
+recordLines x kind n = each (recordLine x kind n) 0 n

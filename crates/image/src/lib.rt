@@ -10,11 +10,12 @@ ghost use lib.Seq.{sets};
 ghost use Rattle.network.specs.Writing.{Writes};
 ghost use Rattle.memory.specs.Layout.{view};
 ghost use Rattle.records.specs.Numbers.{be32};
-ghost use Rattle.records.specs.Records.{endRecord, headerRecord, arcRecord, rowRecord, reportRecord};
+ghost use Rattle.records.specs.Records.{recordLength, endRecord, headerRecord, arcRecord};
 ghost use Rattle.records.specs.Image.{image, imageOf};
 ghost use Rattle.filling.specs.Filling.{Wrote, Added};
-ghost use Rattle.image.specs.Measured.{Measures};
-ghost use Rattle.image.specs.Lines.{arcAt, rowAt, reportAt, recordAt, line, lines};
+ghost use Rattle.image.specs.Items.{longStored, Stored, itemBytes};
+ghost use Rattle.image.specs.Lines.{recordAt, recordLine, recordLines};
+ghost use Rattle.image.specs.Measured.{longest, longestLine, Measures};
 use memory::HeldRead;
 use memory::Network;
 use memory::RowRead;
@@ -60,7 +61,7 @@ const REPORT: u8 = 4;
 
 // The end of an image.
 fn put_end(out: &mut [u8]) -> usize
-    requires { ⌜ 1 ≤ length (now out) ⌝ }
+    requires { ⌜ recordLength 0 ≤ length (now out) ⌝ }
     ensures { λ r. ⌜ Wrote endRecord (now (out .entry)) (now (out .exit)) r ⌝ }
 {
     out[0] = END;
@@ -69,7 +70,7 @@ fn put_end(out: &mut [u8]) -> usize
 
 // The first record of an image.
 fn put_header(out: &mut [u8], n: u32, origin: u32) -> usize
-    requires { ⌜ 3 ≤ length (now out) ⌝ }
+    requires { ⌜ recordLength 1 ≤ length (now out) ⌝ }
     ensures { λ r. ⌜ Wrote (headerRecord n origin) (now (out .entry)) (now (out .exit)) r ⌝ }
 {
     out[0] = HEADER;
@@ -83,7 +84,7 @@ fn put_header(out: &mut [u8], n: u32, origin: u32) -> usize
 
 // The record of an arc.
 fn put_arc(out: &mut [u8], sender: u32, receiver: u32, cost: u32) -> usize
-    requires { ⌜ 5 ≤ length (now out) ⌝ }
+    requires { ⌜ recordLength 2 ≤ length (now out) ⌝ }
     ensures { λ r. ⌜ Wrote (arcRecord sender receiver cost) (now (out .entry)) (now (out .exit)) r ⌝ }
 {
     out[3] = (cost / 256 % 256) as u8;
@@ -105,73 +106,117 @@ fn put32(out: &mut [u8], at: usize, x: u32)
     out[at + 3] = (x % 256) as u8;
 }
 
-// The record of a row.
-fn put_row(out: &mut [u8], node: u32, label: u32, predecessor: u32, list: u32) -> usize
-    requires { ⌜ 11 ≤ length (now out) ⌝ }
-    ensures { λ r. ⌜ Wrote (rowRecord node label predecessor list) (now (out .entry)) (now (out .exit)) r ⌝ }
+// A record of eleven bytes, of a row or a report: the label from one place on, another byte at a place, and the list at the end.
+fn put_long(
+    out: &mut [u8],
+    kind: u8,
+    node: u32,
+    label_at: usize,
+    label: u32,
+    other_at: usize,
+    other: u32,
+    list: u32,
+) -> usize
+    requires { ⌜ recordLength 3 ≤ length (now out) ⌝ }
+    requires { ⌜ «label_at» + 4 ≤ recordLength 3 ⌝ }
+    requires { ⌜ «other_at» < recordLength 3 ⌝ }
+    ensures { λ r. ⌜ Stored (longStored (now (out .entry)) kind node «label_at» label «other_at» other list) (now (out .exit)) (recordLength 3) r ⌝ }
 {
-    put32(out, 2, label);
+    put32(out, label_at, label);
     if out.len() < ROW_LENGTH {
         return ROW_LENGTH;
     }
     put32(out, 7, list);
-    out[0] = ROW;
+    out[0] = kind;
     out[1] = (node % 256) as u8;
-    out[6] = (predecessor % 256) as u8;
+    out[other_at] = (other % 256) as u8;
     ROW_LENGTH
 }
 
-// The record of a held report.
-fn put_report(out: &mut [u8], sender: u32, receiver: u32, label: u32, list: u32) -> usize
-    requires { ⌜ 11 ≤ length (now out) ⌝ }
-    ensures { λ r. ⌜ Wrote (reportRecord sender receiver label list) (now (out .entry)) (now (out .exit)) r ⌝ }
+// ---- what the network has
+
+// A record of kind 2 or 4 from a sender to a receiver, or one of kind 3 of a node: what it holds besides these.
+enum Item {
+    Nothing,
+    Arc {
+        cost: u32,
+    },
+    Row {
+        label: u32,
+        predecessor: u32,
+        list: u32,
+    },
+    Report {
+        label: u32,
+        list: u32,
+    },
+}
+
+// By kind: of sender s and receiver i, or of node i.
+fn read_item(net: &Network, kind: u8, s: u32, i: u32) -> Item
+    requires { ⌜ s < view (now net) .nodes ⌝ }
+    requires { ⌜ i < view (now net) .nodes ⌝ }
+    ensures { λ f. ⌜ itemBytes s i f ≡ recordAt (view (now (net .entry))) kind s i ⌝ }
 {
-    put32(out, 3, label);
-    if out.len() < REPORT_LENGTH {
-        return REPORT_LENGTH;
+    if kind == ARC {
+        let read = memory::pair_cost(net, s, i);
+        let cost = read.cost;
+        if cost == 0 {
+            return Item::Nothing;
+        }
+        return Item::Arc { cost: cost };
     }
-    put32(out, 7, list);
-    out[0] = REPORT;
-    out[1] = (sender % 256) as u8;
-    out[2] = (receiver % 256) as u8;
-    REPORT_LENGTH
+    if kind == ROW {
+        let RowRead::Route {
+            label,
+            predecessor,
+            list,
+            hops: _,
+        } = memory::row(net, i)
+        else {
+            return Item::Nothing;
+        };
+        return Item::Row {
+            label: label,
+            predecessor: predecessor,
+            list: list,
+        };
+    }
+    let HeldRead::Report { label, list } = memory::pair_held(net, s, i) else {
+        return Item::Nothing;
+    };
+    Item::Report {
+        label: label,
+        list: list,
+    }
 }
 
 // ---- lengths
 
-// The bytes of a record of kind 2 or 4 from sender s to receiver i, or of one of kind 3 of node i; 0 where the network has none.
+// The bytes of a record; 0 where the network has none.
 fn record_length(net: &Network, kind: u8, s: u32, i: u32) -> usize
-    ensures { λ r. ⌜ Measures (recordAt (view (now (net .entry))) kind s i) 11 r ⌝ }
+    requires { ⌜ s < view (now net) .nodes ⌝ }
+    requires { ⌜ i < view (now net) .nodes ⌝ }
+    ensures { λ r. ⌜ Measures (recordAt (view (now (net .entry))) kind s i) longest r ⌝ }
 {
-    if kind == ARC {
-        let read = memory::arc_cost(net, s, i);
-        if read.cost == 0 {
-            return 0;
-        }
-        return ARC_LENGTH;
-    }
-    if kind == ROW {
-        let RowRead::Route {
+    let item = read_item(net, kind, s, i);
+    match item {
+        Item::Nothing => 0,
+        Item::Arc { cost: _ } => ARC_LENGTH,
+        Item::Row {
             label: _,
             predecessor: _,
             list: _,
-            hops: _,
-        } = memory::row(net, i)
-        else {
-            return 0;
-        };
-        return ROW_LENGTH;
+        } => ROW_LENGTH,
+        Item::Report { label: _, list: _ } => REPORT_LENGTH,
     }
-    let HeldRead::Report { label: _, list: _ } = memory::held(net, s, i) else {
-        return 0;
-    };
-    REPORT_LENGTH
 }
 
 // The records of sender s to the receivers below n, or those of the nodes below n.
 fn line_length(net: &Network, kind: u8, s: u32, n: u32) -> usize
-    requires { ⌜ n ≤ 32 ⌝ }
-    ensures { λ r. ⌜ Measures (line (view (now (net .entry))) kind n s) 352 r ⌝ }
+    requires { ⌜ n ≤ view (now net) .nodes ⌝ }
+    requires { ⌜ s ≤ n - 1 ⌝ }
+    ensures { λ r. ⌜ Measures (recordLine (view (now (net .entry))) kind n s) longestLine r ⌝ }
 {
     let mut total: usize = 0;
     let mut i: u32 = 0;
@@ -196,63 +241,37 @@ pub fn image_length(net: &Network) -> usize
     total
 }
 
-// ---- a record where the network has one, written from a place of the output on; answers the place after it
+// ---- a record where the network has one
 
-fn put_arc_of(net: &Network, sender: u32, receiver: u32, out: &mut [u8], at: usize) -> usize
-    requires { ⌜ sender < view (now net) .nodes ⌝ }
-    requires { ⌜ receiver < view (now net) .nodes ⌝ }
-    requires { ⌜ at + length (arcAt (view (now net)) sender receiver) ≤ length (now out) ⌝ }
-    ensures { λ r. ⌜ Added (arcAt (view (now (net .entry))) sender receiver) (now (out .entry)) (now (out .exit)) at r ⌝ }
+// At the front of a part, with the bytes used as the answer.
+fn put_item(item: Item, s: u32, i: u32, out: &mut [u8]) -> usize
+    requires { ⌜ length (itemBytes s i item) ≤ length (now out) ⌝ }
+    ensures { λ r. ⌜ Wrote (itemBytes s i item) (now (out .entry)) (now (out .exit)) r ⌝ }
 {
-    let read = memory::pair_cost(net, sender, receiver);
-    let cost = read.cost;
-    if cost == 0 {
-        return at;
+    match item {
+        Item::Nothing => 0,
+        Item::Arc { cost } => put_arc(out, s, i, cost),
+        Item::Row {
+            label,
+            predecessor,
+            list,
+        } => put_long(out, ROW, i, 2, label, 6, predecessor, list),
+        Item::Report { label, list } => put_long(out, REPORT, s, 3, label, 2, i, list),
     }
-    at + put_arc(&mut out[at..], sender, receiver, cost)
 }
 
-fn put_row_of(net: &Network, node: u32, out: &mut [u8], at: usize) -> usize
-    requires { ⌜ at + length (rowAt (view (now net)) node) ≤ length (now out) ⌝ }
-    ensures { λ r. ⌜ Added (rowAt (view (now (net .entry))) node) (now (out .entry)) (now (out .exit)) at r ⌝ }
-{
-    let RowRead::Route {
-        label,
-        predecessor,
-        list,
-        hops: _,
-    } = memory::row(net, node)
-    else {
-        return at;
-    };
-    at + put_row(&mut out[at..], node, label, predecessor, list)
-}
-
-fn put_report_of(net: &Network, sender: u32, receiver: u32, out: &mut [u8], at: usize) -> usize
-    requires { ⌜ sender < view (now net) .nodes ⌝ }
-    requires { ⌜ receiver < view (now net) .nodes ⌝ }
-    requires { ⌜ at + length (reportAt (view (now net)) sender receiver) ≤ length (now out) ⌝ }
-    ensures { λ r. ⌜ Added (reportAt (view (now (net .entry))) sender receiver) (now (out .entry)) (now (out .exit)) at r ⌝ }
-{
-    let HeldRead::Report { label, list } = memory::pair_held(net, sender, receiver) else {
-        return at;
-    };
-    at + put_report(&mut out[at..], sender, receiver, label, list)
-}
-
+// From a place of the output on; answers the place after it.
 fn put_record(net: &Network, kind: u8, s: u32, i: u32, out: &mut [u8], at: usize) -> usize
     requires { ⌜ s < view (now net) .nodes ⌝ }
     requires { ⌜ i < view (now net) .nodes ⌝ }
     requires { ⌜ at + length (recordAt (view (now net)) kind s i) ≤ length (now out) ⌝ }
     ensures { λ r. ⌜ Added (recordAt (view (now (net .entry))) kind s i) (now (out .entry)) (now (out .exit)) at r ⌝ }
 {
-    if kind == ARC {
-        return put_arc_of(net, s, i, out, at);
+    let item = read_item(net, kind, s, i);
+    match item {
+        Item::Nothing => at,
+        _ => at + put_item(item, s, i, &mut out[at..]),
     }
-    if kind == ROW {
-        return put_row_of(net, i, out, at);
-    }
-    put_report_of(net, s, i, out, at)
 }
 
 // ---- records, one after another
@@ -260,8 +279,8 @@ fn put_record(net: &Network, kind: u8, s: u32, i: u32, out: &mut [u8], at: usize
 fn put_line(net: &Network, kind: u8, s: u32, n: u32, out: &mut [u8], start: usize) -> usize
     requires { ⌜ n ≤ view (now net) .nodes ⌝ }
     requires { ⌜ s ≤ n - 1 ⌝ }
-    requires { ⌜ start + length (line (view (now net)) kind n s) ≤ length (now out) ⌝ }
-    ensures { λ r. ⌜ Added (line (view (now (net .entry))) kind n s) (now (out .entry)) (now (out .exit)) start r ⌝ }
+    requires { ⌜ start + length (recordLine (view (now net)) kind n s) ≤ length (now out) ⌝ }
+    ensures { λ r. ⌜ Added (recordLine (view (now (net .entry))) kind n s) (now (out .entry)) (now (out .exit)) start r ⌝ }
 {
     let mut at = start;
     let mut i: u32 = 0;
@@ -274,8 +293,8 @@ fn put_line(net: &Network, kind: u8, s: u32, n: u32, out: &mut [u8], start: usiz
 
 fn put_lines(net: &Network, kind: u8, n: u32, out: &mut [u8], start: usize) -> usize
     requires { ⌜ n ≤ view (now net) .nodes ⌝ }
-    requires { ⌜ start + length (lines (view (now net)) kind n) ≤ length (now out) ⌝ }
-    ensures { λ r. ⌜ Added (lines (view (now (net .entry))) kind n) (now (out .entry)) (now (out .exit)) start r ⌝ }
+    requires { ⌜ start + length (recordLines (view (now net)) kind n) ≤ length (now out) ⌝ }
+    ensures { λ r. ⌜ Added (recordLines (view (now (net .entry))) kind n) (now (out .entry)) (now (out .exit)) start r ⌝ }
 {
     let mut at = start;
     let mut s: u32 = 0;
@@ -321,11 +340,8 @@ pub fn write_image(net: &Network, out: &mut [u8]) -> Written
     if fits(net, out.len()) {
         return Written {
             number: 0,
-            length: put_image(net, out),
+            used: put_image(net, out),
         };
     }
-    Written {
-        number: 6,
-        length: 0,
-    }
+    Written { number: 6, used: 0 }
 }

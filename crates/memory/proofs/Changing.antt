@@ -11,7 +11,7 @@ use Rattle.network.specs.Faults.{pairFault}
 use Rattle.network.specs.Network.{empty, Net, withCost, withHeld, outcome}
 use Rattle.network.specs.Change.{changed}
 use Rattle.network.specs.Words.{reportOf}
-use Rattle.memory.specs.Layout.{words, look, view, arcCosts, heldLabels, heldLists}
+use Rattle.memory.specs.Layout.{wordCount, look, view, arcCosts, heldLabels, heldLists}
 use Rattle.memory.specs.Answers.{Leaves}
 use Rattle.memory.proofs.Store.{read-cost, read-held, store-arc}
 use Rattle.memory.proofs.Laws.{leaves-refused, leaves-accepted}
@@ -22,7 +22,7 @@ emptied true d l = refl
 emptied false d l = refl
 
 -- the list kept and the cost stored are the change
-pub change-words : (xs : List ℕ) → length xs ≡ words → (s r c l : ℕ) → s < view xs .nodes → r < view xs .nodes
+pub change-words : (xs : List ℕ) → length xs ≡ wordCount → (s r c l : ℕ) → s < view xs .nodes → r < view xs .nodes
     → l ≡ cond (eqb c 0 || eqb (look xs (arcCosts + (r * 32 + s))) 0) 0 (look xs (heldLists + (r * 32 + s)))
     → view (set (set xs (heldLists + (r * 32 + s)) l) (arcCosts + (r * 32 + s)) c) ≡ changed (view xs) s r c
 unfolding changed

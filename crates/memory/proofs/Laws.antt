@@ -13,7 +13,7 @@ use Rattle.ancestors.proofs.Cases.{eqb-same}
 use Rattle.network.specs.Faults.{maxNodes, nodeFault, pairFault}
 use Rattle.network.specs.Network.{Row, none, root, via, Report, empty, told, Net, outcome}
 use Rattle.network.proofs.Effects.{outcome-number, refused-net, accepted-net}
-use Rattle.memory.specs.Layout.{cell, rowAt, netOf, look, view, wide, arcCosts, heldLabels, heldLists}
+use Rattle.memory.specs.Layout.{cell, nodeRow, netOf, frameIn, look, view, wide, arcCosts, heldLabels, heldLists}
 use Rattle.memory.specs.Answers.{Leaves, Starts, RowAnswer, rowHops, readRow, rowMeans, CostAnswer, readCost, costMeans, HeldAnswer, readHeld, heldMeans}
 use Rattle.memory.specs.declared.RowRead.{RowRead}
 use Rattle.memory.specs.declared.RowRead.the-variants as R
@@ -23,12 +23,12 @@ use Rattle.memory.specs.declared.HeldRead.the-variants as H
 
 -- a network has at most 32 nodes
 pub few : (xs : List ℕ) → view xs .nodes ≤ maxNodes
-unfolding view netOf
+unfolding view netOf frameIn
 few xs = omega arith
 
 -- the origin has the origin's row
 pub read-origin : (xs : List ℕ) (y : ℕ) → y ≡ view xs .origin → view xs .row y ≡ root (own y)
-unfolding view netOf rowAt
+unfolding view netOf frameIn nodeRow
 read-origin xs y o = rw (← o, eqb-same y)
 
 -- ---- an answer m: refused as 3 for a fault, and else accepted
@@ -40,6 +40,40 @@ accepted number false bad good m e b z = (refl, e)
 refused : {A : Type 0} (number : A → ℕ) (fault : Bool) (bad good m : A) → m ≡ cond fault bad good → number good ≡ 0 → number m ≡ 3 → fault ≡ true
 refused number true bad good m e g z = refl
 refused number false bad good m e g z = absurd (omega (arith, ap number e))
+
+-- ---- what the cases of an answer mean
+
+pub refused-row-means : rowMeans R.Refused ≡ record { number = 3; row = none; hops = 0 }
+unfolding rowMeans
+refused-row-means = refl
+
+pub no-route-means : rowMeans R.NoRoute ≡ record { number = 0; row = none; hops = 0 }
+unfolding rowMeans
+no-route-means = refl
+
+pub origin-means : (l h : ℕ) → rowMeans (R.Origin l h) ≡ record { number = 0; row = root l; hops = h }
+unfolding rowMeans
+origin-means l h = refl
+
+pub route-means : (d p l h : ℕ) → rowMeans (R.Route d p l h) ≡ record { number = 0; row = via d p l; hops = h }
+unfolding rowMeans
+route-means d p l h = refl
+
+pub cost-means : (r : CostRead) → costMeans r ≡ record { number = r .number; cost = r .cost }
+unfolding costMeans
+cost-means r = refl
+
+pub refused-report-means : heldMeans H.Refused ≡ record { number = 3; held = empty }
+unfolding heldMeans
+refused-report-means = refl
+
+pub empty-means : heldMeans H.Empty ≡ record { number = 0; held = empty }
+unfolding heldMeans
+empty-means = refl
+
+pub report-means : (d l : ℕ) → heldMeans (H.Report d l) ≡ record { number = 0; held = told d l }
+unfolding heldMeans
+report-means d l = refl
 
 -- ---- what an answer says of y's row
 
@@ -124,11 +158,11 @@ module _ (xs : List ℕ) (s r : ℕ) (hs : s < view xs .nodes) (hr : r < view xs
   cell-same b = rw (lt-ltb s maxNodes (small .0), lt-ltb r maxNodes (small .1), lt-ltb s (view xs .nodes) hs, lt-ltb r (view xs .nodes) hr)
 
   pub wide-cost : readCost (wide xs) s r ≡ readCost (view xs) s r
-  unfolding readCost wide view netOf
+  unfolding readCost wide view netOf frameIn
   wide-cost = rw (fault-same, cell-same arcCosts)
 
   pub wide-held : readHeld (wide xs) s r ≡ readHeld (view xs) s r
-  unfolding readHeld wide view netOf
+  unfolding readHeld wide view netOf frameIn
   wide-held = rw (fault-same, cell-same heldLabels, cell-same heldLists)
 
 -- ---- what a call leaves, from its number

@@ -16,7 +16,7 @@ use Rattle.network.specs.Placing.{placeRowNumber, placeRowOf, placeReportNumber
 use Rattle.network.specs.Words.{reportOf}
 use Rattle.network.proofs.Accepting.{place-row-accepted, place-report-accepted}
 use Rattle.network.proofs.FaultLaws.{node-says, pair-says, row-says, report-says}
-use Rattle.memory.specs.Layout.{words, view, rowOf, heldLabels, heldLists}
+use Rattle.memory.specs.Layout.{wordCount, view, rowOf, heldLabels, heldLists}
 use Rattle.memory.specs.Inner.{Node}
 use Rattle.memory.specs.Answers.{Leaves}
 use Rattle.memory.proofs.Laws.{few, leaves-refused, leaves-accepted}
@@ -61,7 +61,7 @@ module _ (xs : List ℕ) (s r d l : ℕ) where
     pub report-place : (s < 32) × (r < 32)
     report-place = let p = nodes in (omega (arith, few xs), omega (arith, few xs))
 
-    pub placed-report : length xs ≡ words
+    pub placed-report : length xs ≡ wordCount
         → Leaves (placeReportOf (view xs) s r d l) 0 xs (set (set xs (heldLabels + (r * 32 + s)) d) (heldLists + (r * 32 + s)) l)
     unfolding placeReportOf reportOf
     placed-report size =

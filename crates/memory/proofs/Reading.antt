@@ -43,9 +43,9 @@ module _ (xs : List ℕ) (y : ℕ) (node : y < view xs .nodes) where
       rw (q, p, lt-ltb y 32 small) (sym (read-node (view xs) y node ∙ ap answer (read-origin xs y e)))
 
   module _ (relay : y ≢ view xs .origin) where
-    pub row-none : look xs (rowLists + y) ≡ 0 → rowMeans R.NoRoute ≡ readRow (view xs) y
+    pub row-empty : look xs (rowLists + y) ≡ 0 → rowMeans R.NoRoute ≡ readRow (view xs) y
     unfolding rowMeans rowHops rowOf
-    row-none e = sym (read-node (view xs) y node ∙ ap answer (sym (read-relay xs y node relay) ∙ rw (eq-eqb (look xs (rowLists + y)) 0 e)))
+    row-empty e = sym (read-node (view xs) y node ∙ ap answer (sym (read-relay xs y node relay) ∙ rw (eq-eqb (look xs (rowLists + y)) 0 e)))
 
     pub row-route : (k : ℕ) → look xs (rowLists + y) ≢ 0 → k ≡ hops (look xs (rowLists + y))
         → rowMeans (R.Route (look xs (rowLabels + y)) (look xs (rowPredecessors + y)) (look xs (rowLists + y)) k) ≡ readRow (view xs) y

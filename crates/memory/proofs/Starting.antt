@@ -14,7 +14,7 @@ use Rattle.ancestors.specs.Ancestors.{own}
 use Rattle.network.specs.Faults.{sizeFault}
 use Rattle.network.specs.Network.{root, freshNet, freshNumber, freshOf}
 use Rattle.network.specs.Words.{reportOf}
-use Rattle.memory.specs.Layout.{rowOf, rowAt, netOf, look, view, arcCosts, heldLists, rowLists}
+use Rattle.memory.specs.Layout.{wordCount, rowOf, nodeRow, netOf, frameIn, look, view, arcCosts, heldLists, rowLists}
 use Rattle.memory.specs.Inner.{Blank}
 use Rattle.memory.specs.Answers.{Starts}
 use Rattle.network.proofs.Effects.{same-net}
@@ -26,8 +26,8 @@ zero-at zero k = refl
 zero-at (suc n) zero = refl
 zero-at (suc n) (suc k) = zero-at n k
 
-pub blank-words : Blank (replicate {A = ℕ} 3200 0)
-blank-words = record { size = length-replicate {A = ℕ} 3200 0; zeros = zero-at 3200 }
+pub blank-words : Blank (replicate {A = ℕ} wordCount 0)
+blank-words = record { size = length-replicate {A = ℕ} wordCount 0; zeros = zero-at wordCount }
 
 module _ (xs : List ℕ) (blank : Blank xs) (n o : ℕ) (few : n ≤ 32) where
   abbrev ys : List ℕ
@@ -44,10 +44,11 @@ module _ (xs : List ℕ) (blank : Blank xs) (n o : ℕ) (few : n ≤ 32) where
       getD-set-other (set xs 0 n) 1 k o 0 (λ e. omega arith) ∙ getD-set-other xs 0 k n 0 (λ e. omega arith) ∙ blank .zeros k
 
   pub fresh-view : view ys ≡ freshNet n o
-  unfolding view netOf rowAt rowOf reportOf freshNet
+  unfolding view netOf frameIn nodeRow rowOf reportOf freshNet
   fresh-view =
-      (λ j. netOf (min (first j) 32) (second j) (look ys))
-      ∙ same-net _ _ (omega arith) refl
+      let least : min n 32 ≡ n = omega arith in
+      (λ j. netOf (record { nodes = min (first j) 32; origin = second j }) (look ys))
+      ∙ same-net _ _ (λ j. record { nodes = least j; origin = o })
       (λ s r. cell-zero (min n 32) (look ys) arcCosts s r (λ k h. rest k (omega arith)))
       (λ y. ap (λ w. cond (eqb y o) (root (own o)) w) (rw (word-zero (min n 32) (look ys) rowLists y (λ k h. rest k (omega arith)))))
       (λ s r. rw (cell-zero (min n 32) (look ys) heldLists s r (λ k h. rest k (omega arith))))
@@ -71,6 +72,6 @@ module _ (n o : ℕ) (xs : List ℕ) where
     unfolding sizeFault
     fresh-no-origin d e f = fresh-refused (rw (ne-eqb n 0 d, le-ltb 32 n e, le-leb n o f))
 
-  pub fresh-accepted : n ≢ 0 → n ≤ 32 → o < n → view xs ≡ freshNet n o → Starts (freshOf n o) 0 xs
+  pub fresh-made : n ≢ 0 → n ≤ 32 → o < n → view xs ≡ freshNet n o → Starts (freshOf n o) 0 xs
   unfolding freshOf freshNumber sizeFault
-  fresh-accepted d e f v = starts-accepted _ _ _ xs (rw (ne-eqb n 0 d, le-ltb 32 n e, lt-leb n o f)) v
+  fresh-made d e f v = starts-accepted _ _ _ xs (rw (ne-eqb n 0 d, le-ltb 32 n e, lt-leb n o f)) v

@@ -12,13 +12,13 @@ use lib.Seq.{getD-set-same, getD-set-other}
 use borrow.Author.Tests.{lt-ltb, le-ltb, eq-eqb, ne-eqb}
 use Rattle.ancestors.specs.Ancestors.{own}
 use Rattle.ancestors.proofs.Cases.{le-or-lt, eq-or-ne, eqb-same}
-use Rattle.network.specs.Network.{root, Report, setPair, setAt, withCost, withHeld, withRow}
-use Rattle.network.specs.Faults.{pairFault}
+use Rattle.network.specs.Network.{Frame, root, Report, setPair, setAt, withCost, withHeld, withRow}
+use Rattle.network.specs.Faults.{maxNodes, pairFault}
 use Rattle.network.specs.Words.{reportOf}
 use Rattle.network.proofs.FaultLaws.{pair-says}
 use Rattle.network.proofs.Effects.{same-net}
 use Rattle.memory.specs.Inner.{Node}
-use Rattle.memory.specs.Layout.{words, word, cell, rowOf, rowAt, netOf, look, view, arcCosts, heldLabels, heldLists, rowLabels, rowLists, rowPredecessors}
+use Rattle.memory.specs.Layout.{wordCount, frameIn, word, cell, rowOf, nodeRow, netOf, look, view, arcCosts, heldLabels, heldLists, rowLabels, rowLists, rowPredecessors}
 use Rattle.memory.proofs.Laws.{few}
 
 -- ---- a word stored
@@ -34,29 +34,33 @@ look-set xs i v h k = go (eq-or-ne k i)
     go (inl e) = rw (e, eqb-same i) (getD-set-same xs i v 0 h)
     go (inr n) = rw (ne-eqb k i n) (getD-set-other xs i k v 0 n)
 
--- the words xs are those of f, for n nodes and the origin o
-pub record Gives (xs : List ℕ) (n o : ℕ) (f : ℕ → ℕ) : Type 0 where
-  pub size : length xs ≡ words
+-- a store from the rows on leaves the frame
+frame-away : (f : ℕ → ℕ) (i v : ℕ) → rowLabels ≤ i → frameIn (upd f i v) ≡ frameIn f
+unfolding frameIn
+frame-away f i v h = λ j. record { nodes = min (away 0 (omega arith) j) maxNodes; origin = away 1 (omega arith) j }
+  where
+    away : (k : ℕ) → k < rowLabels → upd f i v k ≡ f k
+    away k b = rw (ne-eqb k i (λ e. omega arith))
+
+-- the words xs are those of f, with the frame t
+pub record Gives (xs : List ℕ) (t : Frame) (f : ℕ → ℕ) : Type 0 where
+  pub size : length xs ≡ wordCount
   pub holds : (k : ℕ) → look xs k ≡ f k
-  pub nodes : min (f 0) 32 ≡ n
-  pub origin : f 1 ≡ o
+  pub framed : frameIn f ≡ t
 
-pub gives-view : {xs : List ℕ} {n o : ℕ} {f : ℕ → ℕ} → Gives xs n o f → view xs ≡ netOf n o f
+pub gives-view : {xs : List ℕ} {t : Frame} {f : ℕ → ℕ} → Gives xs t f → view xs ≡ netOf t f
 unfolding view
-gives-view {f} g = (λ j. netOf (min (g .holds 0 j) 32) (g .holds 1 j) (λ k. g .holds k j)) ∙ (λ j. netOf (g .nodes j) (g .origin j) f)
+gives-view {f} g = (λ j. netOf (frameIn (λ k. g .holds k j)) (λ k. g .holds k j)) ∙ (λ j. netOf (g .framed j) f)
 
-pub gives-start : (xs : List ℕ) → length xs ≡ words → Gives xs (view xs .nodes) (view xs .origin) (look xs)
-unfolding view netOf
-gives-start xs e = record { size = e; holds = λ k. refl; nodes = refl; origin = refl }
+pub gives-start : (xs : List ℕ) → length xs ≡ wordCount → Gives xs (frameIn (look xs)) (look xs)
+gives-start xs e = record { size = e; holds = λ k. refl; framed = refl }
 
--- a store past the first two words leaves nodes and origin
-pub gives-set : {xs : List ℕ} {n o : ℕ} {f : ℕ → ℕ} (i v : ℕ) → Gives xs n o f → 2 ≤ i → i < words → Gives (set xs i v) n o (upd f i v)
-gives-set {xs} {n} {o} {f} i v g a b =
+pub gives-set : {xs : List ℕ} {t : Frame} {f : ℕ → ℕ} (i v : ℕ) → Gives xs t f → rowLabels ≤ i → i < wordCount → Gives (set xs i v) t (upd f i v)
+gives-set {xs} {t} {f} i v g a b =
     record {
       size = length-set xs i v ∙ g .size;
       holds = λ k. look-set xs i v (omega (arith, g .size)) k ∙ ap (λ m. cond (eqb k i) v m) (g .holds k);
-      nodes = rw (ne-eqb 0 i (λ e. omega arith)) (g .nodes);
-      origin = rw (ne-eqb 1 i (λ e. omega arith)) (g .origin);
+      framed = frame-away f i v a ∙ g .framed;
     }
 
 -- ---- the words of nodes and pairs
@@ -120,8 +124,8 @@ module _ (n : ℕ) (f : ℕ → ℕ) (b i v : ℕ) (few : n ≤ 32) where
       off s r h k (inr a) = λ e. omega arith
 
 -- a store past the rows
-row-away : (n : ℕ) (f : ℕ → ℕ) (o i v : ℕ) → n ≤ 32 → arcCosts ≤ i → (y : ℕ) → rowAt n (upd f i v) o y ≡ rowAt n f o y
-unfolding rowAt
+row-away : (n : ℕ) (f : ℕ → ℕ) (o i v : ℕ) → n ≤ 32 → arcCosts ≤ i → (y : ℕ) → nodeRow n (upd f i v) o y ≡ nodeRow n f o y
+unfolding nodeRow
 row-away n f o i v few h y =
     λ j. cond (eqb y o) (root (own o))
     (rowOf (word-away n f rowLabels i v few (inr (omega arith)) y j) (word-away n f rowPredecessors i v few (inr (omega arith)) y j)
@@ -181,28 +185,28 @@ by-place f g y v here else a = go (eq-or-ne a y)
 -- ---- what stands at a node and at a pair
 module _ (xs : List ℕ) where
   pub read-cost : (s r : ℕ) → s < view xs .nodes → r < view xs .nodes → look xs (arcCosts + (r * 32 + s)) ≡ view xs .cost s r
-  unfolding view netOf
+  unfolding view netOf frameIn
   read-cost s r h k = sym (cell-in (min (look xs 0) 32) (look xs) arcCosts s r h k)
 
   pub read-first : look xs 1 ≡ view xs .origin
-  unfolding view netOf
+  unfolding view netOf frameIn
   read-first = refl
 
   -- what lies at nodes not below n plays no part
   pub cost-beyond : (s r : ℕ) → (view xs .nodes ≤ s) ⊎ (view xs .nodes ≤ r) → view xs .cost s r ≡ 0
-  unfolding view netOf
+  unfolding view netOf frameIn
   cost-beyond s r h = cell-out (min (look xs 0) 32) (look xs) arcCosts s r h
 
   pub read-held : (s r : ℕ) → s < view xs .nodes → r < view xs .nodes
       → reportOf (look xs (heldLabels + (r * 32 + s))) (look xs (heldLists + (r * 32 + s))) ≡ view xs .held s r
-  unfolding view netOf
+  unfolding view netOf frameIn
   read-held s r h k =
       let n = min (look xs 0) 32 in
       λ j. reportOf (sym (cell-in n (look xs) heldLabels s r h k) j) (sym (cell-in n (look xs) heldLists s r h k) j)
 
   pub read-relay : (y : ℕ) → y < view xs .nodes → y ≢ view xs .origin → rowOf (look xs (rowLabels + y)) (look xs (rowPredecessors + y))
       (look xs (rowLists + y)) ≡ view xs .row y
-  unfolding view netOf rowAt
+  unfolding view netOf frameIn nodeRow
   read-relay y h o =
       let n = min (look xs 0) 32 in
       rw (ne-eqb y (look xs 1) o)
@@ -210,7 +214,7 @@ module _ (xs : List ℕ) where
       (sym (word-in n (look xs) rowLists y h) j))
 
 -- ---- stores of whole parts
-module _ (xs : List ℕ) (size : length xs ≡ words) where
+module _ (xs : List ℕ) (size : length xs ≡ wordCount) where
   abbrev n : ℕ
   n = view xs .nodes
 
@@ -224,17 +228,17 @@ module _ (xs : List ℕ) (size : length xs ≡ words) where
     abbrev at : ℕ
     at = r * 32 + s
 
-    inside : (b : ℕ) → b ≤ heldLists → b + at < words
+    inside : (b : ℕ) → b ≤ heldLists → b + at < wordCount
     inside b h = omega (arith, few xs)
 
     -- an arc's cost, and the list of its report
     pub store-arc : (c l : ℕ) → view (set (set xs (heldLists + at) l) (arcCosts + at) c) ≡ withHeld (withCost (view xs) s r c) s r
         (reportOf (look xs (heldLabels + at)) l)
-    unfolding withHeld withCost view netOf
+    unfolding withHeld withCost view netOf frameIn
     store-arc c l =
         gives-view (gives-set (arcCosts + at) c (gives-set (heldLists + at) l (gives-start xs size) (omega arith)
         (inside heldLists (omega arith))) (omega arith) (inside arcCosts (omega arith)))
-        ∙ same-net _ _ refl refl
+        ∙ same-net _ _ refl
         (by-pair (cell n f arcCosts) (cell n h arcCosts) s r c (cell-here n g arcCosts c (few xs) s r hs hr)
         (λ a b ne. cell-else n g arcCosts c (few xs) s r a b hs hr ne ∙ cell-away n f arcCosts (heldLists + at) l (few xs) (inr (omega arith)) a b))
         (λ y. row-away n g o (arcCosts + at) c (few xs) (omega arith) y ∙ row-away n f o (heldLists + at) l (few xs) (omega arith) y)
@@ -260,11 +264,11 @@ module _ (xs : List ℕ) (size : length xs ≡ words) where
 
     -- the two words of a report
     pub store-report : (d l : ℕ) → view (set (set xs (heldLabels + at) d) (heldLists + at) l) ≡ withHeld (view xs) s r (reportOf d l)
-    unfolding withHeld view netOf
+    unfolding withHeld view netOf frameIn
     store-report d l =
         gives-view (gives-set (heldLists + at) l (gives-set (heldLabels + at) d (gives-start xs size) (omega arith)
         (inside heldLabels (omega arith))) (omega arith) (inside heldLists (omega arith)))
-        ∙ same-net _ _ refl refl
+        ∙ same-net _ _ refl
         (λ a b. cell-away n g arcCosts (heldLists + at) l (few xs) (inr (omega arith)) a b ∙ cell-away n f arcCosts (heldLabels + at) d
         (few xs) (inr (omega arith)) a b)
         (λ y. row-away n g o (heldLists + at) l (few xs) (omega arith) y ∙ row-away n f o (heldLabels + at) d (few xs) (omega arith) y)
@@ -335,33 +339,33 @@ module _ (xs : List ℕ) (size : length xs ≡ words) where
         ∙ cell-away n g₁ b (rowPredecessors + y) p (few xs) (inl (omega (arith, small))) s r
         ∙ cell-away n f b (rowLabels + y) d (few xs) (inl (omega (arith, small))) s r
 
-    stored : Gives (set (set (set xs (rowLabels + y) d) (rowPredecessors + y) p) (rowLists + y) l) n o g₃
+    stored : Gives (set (set (set xs (rowLabels + y) d) (rowPredecessors + y) p) (rowLists + y) l) (frameIn (look xs)) g₃
     stored =
         gives-set (rowLists + y) l (gives-set (rowPredecessors + y) p (gives-set (rowLabels + y) d (gives-start xs size) (omega arith)
         (omega (arith, small))) (omega arith) (omega (arith, small)))
         (omega arith) (omega (arith, small))
 
     pub store-row : y ≢ o → view (set (set (set xs (rowLabels + y) d) (rowPredecessors + y) p) (rowLists + y) l) ≡ withRow (view xs) y (rowOf d p l)
-    unfolding withRow view netOf rowAt
+    unfolding withRow view netOf frameIn nodeRow
     store-row ne =
         gives-view stored
-        ∙ same-net _ _ refl refl (cells arcCosts (omega arith))
-        (by-place (rowAt n f o) (rowAt n g₃ o) y (rowOf d p l) (rw (ne-eqb y o ne) there)
+        ∙ same-net _ _ refl (cells arcCosts (omega arith))
+        (by-place (nodeRow n f o) (nodeRow n g₃ o) y (rowOf d p l) (rw (ne-eqb y o ne) there)
         (λ a e. ap (λ w. cond (eqb a o) (root (own o)) w) (elsewhere a e)))
         (λ a b. λ j. reportOf (cells heldLabels (omega arith) a b j) (cells heldLists (omega arith) a b j))
 
     -- the origin's words are not read
     pub store-origin : y ≡ o → view (set (set (set xs (rowLabels + y) d) (rowPredecessors + y) p) (rowLists + y) l) ≡ view xs
-    unfolding view netOf rowAt
+    unfolding view netOf frameIn nodeRow
     store-origin e =
         gives-view stored
-        ∙ same-net _ _ refl refl (cells arcCosts (omega arith)) row
+        ∙ same-net _ _ refl (cells arcCosts (omega arith)) row
         (λ a b. λ j. reportOf (cells heldLabels (omega arith) a b j) (cells heldLists (omega arith) a b j))
       where
-        row : (a : ℕ) → rowAt n g₃ o a ≡ rowAt n f o a
+        row : (a : ℕ) → nodeRow n g₃ o a ≡ nodeRow n f o a
         row a = go (eq-or-ne a o)
           where
-            go : (a ≡ o) ⊎ (a ≢ o) → rowAt n g₃ o a ≡ rowAt n f o a
+            go : (a ≡ o) ⊎ (a ≢ o) → nodeRow n g₃ o a ≡ nodeRow n f o a
             go (inl q) = rw (eq-eqb a o q)
             go (inr q) = ap (λ w. cond (eqb a o) (root (own o)) w) (elsewhere a (λ k. q (k ∙ e)))
 

@@ -4,7 +4,7 @@ use mathlib.Core.Path.{_≡_}
 use mathlib.Core.List.{List}
 use Prim.Native.Nat.{ℕ, _<_}
 use lib.ListN.{length}
-use Rattle.memory.specs.Layout.{words, look, view}
+use Rattle.memory.specs.Layout.{wordCount, look, view}
 
 -- y is a node of the network that the words give
 pub record Node (xs : List ℕ) (y : ℕ) : Type 0 where
@@ -13,5 +13,5 @@ pub record Node (xs : List ℕ) (y : ℕ) : Type 0 where
 
 -- words of 0
 pub record Blank (xs : List ℕ) : Type 0 where
-  pub size : length xs ≡ words
+  pub size : length xs ≡ wordCount
   pub zeros : (k : ℕ) → look xs k ≡ 0

@@ -9,33 +9,33 @@ use Prim.Native.Nat.{ℕ, _+_, _*_, min}
 use lib.Dec.{eqb, ltb}
 use lib.ListN.{getD}
 use Rattle.ancestors.specs.Ancestors.{own}
-use Rattle.network.specs.Faults.{maxNodes}
-use Rattle.network.specs.Network.{Row, none, root, via, Net}
+use Rattle.network.specs.Faults.{maxNodes, pairCount}
+use Rattle.network.specs.Network.{Frame, Row, none, root, via, Net}
 use Rattle.network.specs.Words.{reportOf}
-
--- the number of words
-abbrev pub words : ℕ
-words = 3200
 
 -- where labels, predecessors and lists of rows begin
 abbrev pub rowLabels : ℕ
 rowLabels = 32
 
 abbrev pub rowPredecessors : ℕ
-rowPredecessors = 64
+rowPredecessors = rowLabels + maxNodes
 
 abbrev pub rowLists : ℕ
-rowLists = 96
+rowLists = rowPredecessors + maxNodes
 
 -- where costs, and labels and lists of held reports begin
 abbrev pub arcCosts : ℕ
-arcCosts = 128
+arcCosts = rowLists + maxNodes
 
 abbrev pub heldLabels : ℕ
-heldLabels = 1152
+heldLabels = arcCosts + pairCount
 
 abbrev pub heldLists : ℕ
-heldLists = 2176
+heldLists = heldLabels + pairCount
+
+-- the number of words
+abbrev pub wordCount : ℕ
+wordCount = heldLists + pairCount
 
 -- the word of node y among those that begin at b
 unfoldable pub word : ℕ → (ℕ → ℕ) → ℕ → ℕ → ℕ
@@ -50,17 +50,22 @@ unfoldable pub rowOf : ℕ → ℕ → ℕ → Row
 rowOf d p l = cond (eqb l 0) none (via d p l)
 
 -- the row of node y
-unfoldable pub rowAt : ℕ → (ℕ → ℕ) → ℕ → ℕ → Row
-rowAt n f origin y = cond (eqb y origin) (root (own origin)) (rowOf (word n f rowLabels y) (word n f rowPredecessors y) (word n f rowLists y))
+unfoldable pub nodeRow : ℕ → (ℕ → ℕ) → ℕ → ℕ → Row
+nodeRow n f origin y = cond (eqb y origin) (root (own origin)) (rowOf (word n f rowLabels y) (word n f rowPredecessors y) (word n f rowLists y))
 
--- the network of n nodes that the words f give
-unfoldable pub netOf : ℕ → ℕ → (ℕ → ℕ) → Net
-netOf n origin f =
+-- nodes and origin that the words f give
+unfoldable pub frameIn : (ℕ → ℕ) → Frame
+frameIn f = record { nodes = min (f 0) maxNodes; origin = f 1 }
+
+-- the network with the frame t that the words f give
+unfoldable pub netOf : Frame → (ℕ → ℕ) → Net
+netOf t f =
+    let n = t .nodes in
     record {
       nodes = n;
-      origin = origin;
+      origin = t .origin;
       cost = cell n f arcCosts;
-      row = rowAt n f origin;
+      row = nodeRow n f (t .origin);
       held = λ s r. reportOf (cell n f heldLabels s r) (cell n f heldLists s r);
     }
 
@@ -70,8 +75,8 @@ look xs k = getD xs k 0
 
 -- the network that words give
 unfoldable pub view : List ℕ → Net
-view xs = netOf (min (look xs 0) maxNodes) (look xs 1) (look xs)
+view xs = netOf (frameIn (look xs)) (look xs)
 
 -- the network of 32 nodes that words give, whatever they say of n
 unfoldable pub wide : List ℕ → Net
-wide xs = netOf maxNodes (look xs 1) (look xs)
+wide xs = netOf (record { nodes = maxNodes; origin = look xs 1 }) (look xs)

@@ -11,37 +11,37 @@ ghost use lib.Dec.{eqb};
 ghost use Rattle.network.specs.Network.{freshNet, freshOf};
 ghost use Rattle.network.specs.Placing.{placeRowNumber, placeRowOf, placeReportNumber, placeReportOf};
 ghost use Rattle.network.specs.Change.{changed, changeOf, gradeOf};
-ghost use Rattle.memory.specs.Layout.{words, view, wide};
+ghost use Rattle.memory.specs.Layout.{wordCount, view, wide};
 ghost use Rattle.memory.specs.Inner.{Node, Blank};
 ghost use Rattle.memory.specs.Answers.{Leaves, Starts, readRow, rowMeans, readCost, costMeans, readHeld, heldMeans};
 
-// Where what lies in the words of a network, as specs/Layout.antt says: for this crate and `routing` alone.
-pub const WORDS: usize = 3200;
+// Words for something of each node, and of each pair.
+const BY_NODE: usize = network::MAX_NODES as usize;
 
+const BY_PAIR: usize = BY_NODE * BY_NODE;
+
+// Where what lies in the words of a network, as specs/Layout.antt says: for this crate and `routing` alone.
 pub const NODES: usize = 0;
 
 pub const ORIGIN: usize = 1;
 // By node.
 pub const ROW_LABELS: usize = 32;
 
-pub const ROW_PREDECESSORS: usize = 64;
+pub const ROW_PREDECESSORS: usize = ROW_LABELS + BY_NODE;
 
-pub const ROW_LISTS: usize = 96;
+pub const ROW_LISTS: usize = ROW_PREDECESSORS + BY_NODE;
 // By receiver times 32 plus sender.
-pub const COSTS: usize = 128;
+pub const COSTS: usize = ROW_LISTS + BY_NODE;
 
-pub const HELD_LABELS: usize = 1152;
+pub const HELD_LABELS: usize = COSTS + BY_PAIR;
 
-pub const HELD_LISTS: usize = 2176;
+pub const HELD_LISTS: usize = HELD_LABELS + BY_PAIR;
+
+// How many words there are.
+pub const WORDS: usize = HELD_LISTS + BY_PAIR;
 
 // The words of a network.
 pub type Network = [u32; WORDS];
-
-// What `fresh` answers: a number, 0 or 3, and a network.
-pub struct NewNetwork {
-    pub number: u8,
-    pub net: Network,
-}
 
 // A node's row as it is read.
 pub enum RowRead {
@@ -133,18 +133,6 @@ pub fn make_fresh(net: &mut Network, n: u32, origin: u32) -> u8
     0
 }
 
-// The same network by value.
-pub fn fresh(n: u32, origin: u32) -> NewNetwork
-    ensures { λ r. ⌜ Starts (freshOf n origin) (r .number) (r .net) ⌝ }
-{
-    let mut net = zeros();
-    let number = make_fresh(&mut net, n, origin);
-    NewNetwork {
-        number: number,
-        net: net,
-    }
-}
-
 // ---- change and grade
 
 // The list of an arc's report after a change: a removed or a new arc holds an empty report.
@@ -161,7 +149,7 @@ fn kept_list(cost: u32, old: u32, list: u32) -> u32
 }
 
 fn set_arc(net: &mut [u32], sender: u32, receiver: u32, cost: u32)
-    requires { ⌜ length (now net) ≡ words ⌝ }
+    requires { ⌜ length (now net) ≡ wordCount ⌝ }
     requires { ⌜ Node (now net) sender ⌝ }
     requires { ⌜ Node (now net) receiver ⌝ }
     ensures { λ _. ⌜ view (now (net .exit)) ≡ changed (view (now (net .entry))) sender receiver cost ⌝ }
@@ -175,7 +163,7 @@ fn set_arc(net: &mut [u32], sender: u32, receiver: u32, cost: u32)
 pub fn change(net: &mut Network, sender: u32, receiver: u32, cost: u32) -> u8
     ensures { λ k. ⌜ Leaves (changeOf (view (now (net .entry))) sender receiver cost) k (now (net .entry)) (now (net .exit)) ⌝ }
 {
-    if network::pair_fault(nodes(net), sender, receiver) {
+    if rule::pair_fault(nodes(net), sender, receiver) {
         return 3;
     }
     if network::MAX_COST < cost {
@@ -189,13 +177,13 @@ pub fn change(net: &mut Network, sender: u32, receiver: u32, cost: u32) -> u8
 pub fn grade(net: &mut Network, sender: u32, receiver: u32, grade: u32) -> u8
     ensures { λ k. ⌜ Leaves (gradeOf (view (now (net .entry))) sender receiver grade) k (now (net .entry)) (now (net .exit)) ⌝ }
 {
-    if network::pair_fault(nodes(net), sender, receiver) {
+    if rule::pair_fault(nodes(net), sender, receiver) {
         return 3;
     }
     if network::MAX_GRADE < grade {
         return 3;
     }
-    set_arc(net, sender, receiver, network::grade_cost(grade));
+    set_arc(net, sender, receiver, rule::grade_cost(grade));
     0
 }
 
@@ -229,7 +217,7 @@ pub fn row(net: &Network, node: u32) -> RowRead
 }
 
 fn cost_word(net: &[u32], sender: u32, receiver: u32) -> u32
-    requires { ⌜ length (now net) ≡ words ⌝ }
+    requires { ⌜ length (now net) ≡ wordCount ⌝ }
     requires { ⌜ Node (now net) sender ⌝ }
     requires { ⌜ Node (now net) receiver ⌝ }
     ensures { λ r. ⌜ r ≡ view (now (net .entry)) .cost sender receiver ⌝ }
@@ -244,7 +232,7 @@ fn cost_word(net: &[u32], sender: u32, receiver: u32) -> u32
 pub fn pair_cost(net: &Network, sender: u32, receiver: u32) -> CostRead
     ensures { λ r. ⌜ costMeans r ≡ readCost (wide (now (net .entry))) sender receiver ⌝ }
 {
-    if network::pair_fault(network::MAX_NODES, sender, receiver) {
+    if rule::pair_fault(network::MAX_NODES, sender, receiver) {
         return CostRead { number: 3, cost: 0 };
     }
     CostRead {
@@ -257,7 +245,7 @@ pub fn pair_cost(net: &Network, sender: u32, receiver: u32) -> CostRead
 pub fn pair_held(net: &Network, sender: u32, receiver: u32) -> HeldRead
     ensures { λ r. ⌜ heldMeans r ≡ readHeld (wide (now (net .entry))) sender receiver ⌝ }
 {
-    if network::pair_fault(network::MAX_NODES, sender, receiver) {
+    if rule::pair_fault(network::MAX_NODES, sender, receiver) {
         return HeldRead::Refused;
     }
     let at = receiver as usize * 32 + sender as usize;
@@ -275,7 +263,7 @@ pub fn pair_held(net: &Network, sender: u32, receiver: u32) -> HeldRead
 pub fn arc_cost(net: &Network, sender: u32, receiver: u32) -> CostRead
     ensures { λ r. ⌜ costMeans r ≡ readCost (view (now (net .entry))) sender receiver ⌝ }
 {
-    if network::pair_fault(nodes(net), sender, receiver) {
+    if rule::pair_fault(nodes(net), sender, receiver) {
         return CostRead { number: 3, cost: 0 };
     }
     pair_cost(net, sender, receiver)
@@ -285,7 +273,7 @@ pub fn arc_cost(net: &Network, sender: u32, receiver: u32) -> CostRead
 pub fn held(net: &Network, sender: u32, receiver: u32) -> HeldRead
     ensures { λ r. ⌜ heldMeans r ≡ readHeld (view (now (net .entry))) sender receiver ⌝ }
 {
-    if network::pair_fault(nodes(net), sender, receiver) {
+    if rule::pair_fault(nodes(net), sender, receiver) {
         return HeldRead::Refused;
     }
     pair_held(net, sender, receiver)
@@ -294,14 +282,14 @@ pub fn held(net: &Network, sender: u32, receiver: u32) -> HeldRead
 // ---- placing
 
 // What `place_row` would answer.
-pub fn row_number(net: &Network, node: u32, label: u32, predecessor: u32, list: u32) -> u8
+fn row_number(net: &Network, node: u32, label: u32, predecessor: u32, list: u32) -> u8
     ensures { λ k. ⌜ k ≡ placeRowNumber (view (now (net .entry))) node label predecessor list ⌝ }
 {
     let n = nodes(net);
     if n <= node {
         return 3;
     }
-    if network::row_fault(n, net[ORIGIN], node, label, predecessor, list) {
+    if rule::row_fault(n, net[ORIGIN], node, label, predecessor, list) {
         return 5;
     }
     0
@@ -324,14 +312,14 @@ pub fn place_row(net: &mut Network, node: u32, label: u32, predecessor: u32, lis
 }
 
 // What `place_report` would answer.
-pub fn report_number(net: &Network, sender: u32, receiver: u32, label: u32, list: u32) -> u8
+fn report_number(net: &Network, sender: u32, receiver: u32, label: u32, list: u32) -> u8
     ensures { λ k. ⌜ k ≡ placeReportNumber (view (now (net .entry))) sender receiver label list ⌝ }
 {
     let n = nodes(net);
-    if network::pair_fault(n, sender, receiver) {
+    if rule::pair_fault(n, sender, receiver) {
         return 3;
     }
-    if network::report_fault(n, cost_word(net, sender, receiver), sender, label, list) {
+    if rule::report_fault(n, cost_word(net, sender, receiver), sender, label, list) {
         return 5;
     }
     0

@@ -5,9 +5,8 @@ use mathlib.Core.Path.{_≡_, refl, sym, ap, ap₂, _∙_}
 use mathlib.Core.Bool.{false}
 use mathlib.Core.Logic.{_⊎_, inl, inr, _≢_}
 use Prim.Native.Nat.{ℕ, _+_, _<_, _≤_}
-use native.Mathlib.Omega.{arith}
 use Rattle.ancestors.specs.Ancestors.{has, put}
-use Rattle.ancestors.proofs.Cases.{eq-or-ne}
+use Rattle.ancestors.proofs.Cases.{eq-or-ne, clash}
 use Rattle.network.specs.Faults.{maxLabel}
 use Rattle.network.specs.Network.{root, via, Report, told}
 use Rattle.network.specs.Round.{offer, Winner, nobody, sender, winner, listOf, rowBy, choice}
@@ -34,7 +33,7 @@ module _ (n : ℕ) (cost : ℕ → ℕ) (held : ℕ → Report) (y : ℕ) where
 
   came-by : (w : Winner) → Won offered-by n w → (d p l : ℕ) → rowBy y held w ≡ via d p l → Came d p l
   unfolding rowBy
-  came-by nobody h d p l e = let z : _≡_ {A = ℕ} 0 1 = cc in absurd (omega arith)
+  came-by nobody h d p l e = clash cc
   came-by (sender s u) (some-one b q best) d p l e =
       let es : s ≡ p = cc in
       let eu : u ≡ d = cc in
@@ -43,8 +42,8 @@ module _ (n : ℕ) (cost : ℕ → ℕ) (held : ℕ → Report) (y : ℕ) where
 
   no-root-by : (w : Winner) (l : ℕ) → rowBy y held w ≡ root l → ⊥
   unfolding rowBy
-  no-root-by nobody l e = let z : _≡_ {A = ℕ} 0 1 = cc in omega arith
-  no-root-by (sender s u) l e = let z : _≡_ {A = ℕ} 0 1 = cc in omega arith
+  no-root-by nobody l e = clash cc
+  no-root-by (sender s u) l e = clash cc
 
   wins-by : (w : Winner) → Won offered-by n w → (s e l : ℕ) → s < n → held s ≡ told e l → offered-by s ≡ Sum (e + cost s) →
       ((r v : ℕ) → r < n → r ≢ s → Made y (cost r) (held r) v → Before (e + cost s) s v r) → rowBy y held w ≡ via (e + cost s) s (put l y)

@@ -11,7 +11,7 @@ use borrow.Author.Tests.{lt-ltb, le-ltb, eq-eqb, ne-eqb}
 use Rattle.ancestors.specs.Ancestors.{own}
 use Rattle.ancestors.proofs.Cases.{eq-or-ne, eqb-same}
 use Rattle.network.specs.Faults.{maxGrade}
-use Rattle.network.specs.Network.{Row, none, root, via, Report, empty, told, Net, setAt, setPair, withCost, withRow, withHeld, Outcome, outcome, freshNet, freshNumber, freshOf}
+use Rattle.network.specs.Network.{Frame, Row, none, root, via, Report, empty, told, Net, setAt, setPair, withRows, withReports, withCost, withRow, withHeld, Outcome, outcome, freshNet, freshNumber, freshOf}
 use Rattle.network.specs.Writing.{writing}
 use Rattle.network.specs.Placing.{placeRowNumber, placeRowOf, placeReportNumber, placeReportOf}
 use Rattle.network.specs.Round.{Marks, report, hear, choice, renewTo, renew, round, marked, roundNumber, roundOf, everyArc, fullRoundOf}
@@ -19,10 +19,33 @@ use Rattle.network.specs.Change.{changed, changeNumber, changeOf, gradeC
 use Rattle.network.proofs.FaultLaws.{cost-free, grade-free}
 use Rattle.network.proofs.Grades.{grade-small}
 
+-- ---- what stays
+
+-- the frame of a network
+abbrev pub frame : Net → Frame
+frame x = record { nodes = x .nodes; origin = x .origin }
+
+-- z has the frame of x
+abbrev pub Stays : Net → Net → Type 0
+Stays x z = frame z ≡ frame x
+
+pub nodes-stay : {f g : Frame} → f ≡ g → f .nodes ≡ g .nodes
+nodes-stay e = ap (λ (f : Frame). f .nodes) e
+
+pub origin-stay : {f g : Frame} → f ≡ g → f .origin ≡ g .origin
+origin-stay e = ap (λ (f : Frame). f .origin) e
+
 -- two networks with the same parts are one
-pub same-net : (x z : Net) → x .nodes ≡ z .nodes → x .origin ≡ z .origin → ((s r : ℕ) → x .cost s r ≡ z .cost s r)
+pub same-net : (x z : Net) → frame x ≡ frame z → ((s r : ℕ) → x .cost s r ≡ z .cost s r)
     → ((y : ℕ) → x .row y ≡ z .row y) → ((s r : ℕ) → x .held s r ≡ z .held s r) → x ≡ z
-same-net x z n o c p q = λ i. record { nodes = n i; origin = o i; cost = λ s r. c s r i; row = λ y. p y i; held = λ s r. q s r i }
+same-net x z f c p q = λ i. record { nodes = f i .nodes; origin = f i .origin; cost = λ s r. c s r i; row = λ y. p y i; held = λ s r. q s r i }
+
+-- the same rows or held reports give the same network
+pub same-rows : (x : Net) {f g : ℕ → Row} → ((y : ℕ) → f y ≡ g y) → withRows x f ≡ withRows x g
+same-rows x e = λ i. withRows x (λ y. e y i)
+
+pub same-reports : (x : Net) {f g : ℕ → ℕ → Report} → ((s r : ℕ) → f s r ≡ g s r) → withReports x f ≡ withReports x g
+same-reports x e = λ i. withReports x (λ s r. e s r i)
 
 -- ---- outcomes
 
@@ -134,8 +157,7 @@ module _ {A : Type 0} where
 
 -- z is x after a round with the marks m
 pub record RoundEffect (m : Marks) (x z : Net) : Type 0 where
-  pub nodes : z .nodes ≡ x .nodes
-  pub origin : z .origin ≡ x .origin
+  pub stays : Stays x z
   pub cost : z .cost ≡ x .cost
   -- a marked arc holds what the sender's row reported before the round
   pub marked : (s r : ℕ) → m s r ≡ true → z .held s r ≡ report (x .row s)
@@ -149,8 +171,7 @@ pub round-effect : (m : Marks) (x : Net) → RoundEffect m x (round m x)
 unfolding round renew renewTo hear
 round-effect m x =
     record {
-      nodes = refl;
-      origin = refl;
+      stays = refl;
       cost = refl;
       marked = λ s r e. rw e;
       unmarked = λ s r e. rw e;
@@ -163,8 +184,7 @@ round-effect m x =
 
 -- z is x after the cost of the pair s, r is set to c
 pub record ChangeEffect (x : Net) (s r c : ℕ) (z : Net) : Type 0 where
-  pub nodes : z .nodes ≡ x .nodes
-  pub origin : z .origin ≡ x .origin
+  pub stays : Stays x z
   pub row : z .row ≡ x .row
   pub cost-here : z .cost s r ≡ c
   pub cost-else : (a b : ℕ) → (SamePair a b s r → ⊥) → z .cost a b ≡ x .cost a b
@@ -178,8 +198,7 @@ pub change-effect : (x : Net) (s r c : ℕ) → ChangeEffect x s r c (changed x 
 unfolding changed withHeld withCost
 change-effect x s r c =
     record {
-      nodes = refl;
-      origin = refl;
+      stays = refl;
       row = refl;
       cost-here = pair-here (x .cost) s r c;
       cost-else = λ a b h. pair-else (x .cost) s r c a b h;
@@ -199,10 +218,13 @@ grade-effect x s r g h = rw (grade-free g h, cost-free (gradeCost g) (grade-smal
 
 -- ---- the fresh network
 
+-- the frame of a fresh network
+abbrev pub freshFrame : ℕ → ℕ → Frame
+freshFrame n origin = record { nodes = n; origin = origin }
+
 -- z has no arcs, and no routes but the origin's
 pub record FreshEffect (n origin : ℕ) (z : Net) : Type 0 where
-  pub nodes : z .nodes ≡ n
-  pub origin-is : z .origin ≡ origin
+  pub framed : frame z ≡ freshFrame n origin
   pub cost : (s r : ℕ) → z .cost s r ≡ 0
   pub held : (s r : ℕ) → z .held s r ≡ empty
   pub origin-row : z .row origin ≡ root (own origin)
@@ -212,8 +234,7 @@ pub fresh-effect : (n origin : ℕ) → FreshEffect n origin (freshNet n origin)
 unfolding freshNet
 fresh-effect n origin =
     record {
-      nodes = refl;
-      origin-is = refl;
+      framed = refl;
       cost = λ s r. refl;
       held = λ s r. refl;
       origin-row = rw (eqb-same origin);
@@ -224,8 +245,7 @@ fresh-effect n origin =
 
 -- z is x with the row w at y
 pub record PlaceRowEffect (x : Net) (y : ℕ) (w : Row) (z : Net) : Type 0 where
-  pub nodes : z .nodes ≡ x .nodes
-  pub origin : z .origin ≡ x .origin
+  pub stays : Stays x z
   pub cost : z .cost ≡ x .cost
   pub held : z .held ≡ x .held
   pub row-here : z .row y ≡ w
@@ -235,8 +255,7 @@ pub place-row-effect : (x : Net) (y : ℕ) (w : Row) → PlaceRowEffect x y w (w
 unfolding withRow
 place-row-effect x y w =
     record {
-      nodes = refl;
-      origin = refl;
+      stays = refl;
       cost = refl;
       held = refl;
       row-here = set-here (x .row) y w;
@@ -245,8 +264,7 @@ place-row-effect x y w =
 
 -- z is x with the report h held at the pair s, r
 pub record PlaceReportEffect (x : Net) (s r : ℕ) (h : Report) (z : Net) : Type 0 where
-  pub nodes : z .nodes ≡ x .nodes
-  pub origin : z .origin ≡ x .origin
+  pub stays : Stays x z
   pub cost : z .cost ≡ x .cost
   pub row : z .row ≡ x .row
   pub held-here : z .held s r ≡ h
@@ -256,8 +274,7 @@ pub place-report-effect : (x : Net) (s r : ℕ) (h : Report) → PlaceReportEffe
 unfolding withHeld
 place-report-effect x s r h =
     record {
-      nodes = refl;
-      origin = refl;
+      stays = refl;
       cost = refl;
       row = refl;
       held-here = pair-here (x .held) s r h;
@@ -266,11 +283,11 @@ place-report-effect x s r h =
 
 -- ---- bytes written
 
-pub writing-refused : (k : ℕ) (bytes out : List ℕ) → k ≢ 0 → writing k bytes out ≡ record { number = k; length = 0; output = out }
+pub writing-refused : (k : ℕ) (bytes out : List ℕ) → k ≢ 0 → writing k bytes out ≡ record { number = k; used = 0; output = out }
 unfolding writing
 writing-refused k bytes out h = rw (ne-eqb k 0 h)
 
 pub writing-accepted : (bytes out : List ℕ) →
-    writing 0 bytes out ≡ record { number = 0; length = length bytes; output = bytes ++ drop (length bytes) out }
+    writing 0 bytes out ≡ record { number = 0; used = length bytes; output = bytes ++ drop (length bytes) out }
 unfolding writing
 writing-accepted bytes out = refl

@@ -15,10 +15,10 @@ use Rattle.network.specs.Round.{marked, round, roundNumber, roundOf, eve
 use Rattle.network.specs.Change.{changed, changeNumber, changeOf, gradeCost, gradeNumber, gradeOf}
 use Rattle.network.proofs.Distinct.{root-via, none-root, none-via, empty-told}
 use Rattle.network.proofs.FaultLaws.{size-free, cost-says, row-says, report-free}
-use Rattle.network.proofs.Limits.{within-report}
+use Rattle.network.proofs.Limits.{within-report, arc-limits, row-limits, within-by}
 use Rattle.network.proofs.Grades.{grade-small}
 use Rattle.network.proofs.Accepting.{fresh-accepted, change-accepted, grade-accepted, place-row-accepted, place-report-accepted}
-use Rattle.network.proofs.Effects.{refused-net, accepted-net, SamePair, same-pair, round-effect, ChangeEffect, change-effect, FreshEffect, fresh-effect, PlaceRowEffect, place-row-effect, PlaceReportEffect, place-report-effect}
+use Rattle.network.proofs.Effects.{nodes-stay, origin-stay, refused-net, accepted-net, SamePair, same-pair, round-effect, ChangeEffect, change-effect, FreshEffect, fresh-effect, PlaceRowEffect, place-row-effect, PlaceReportEffect, place-report-effect}
 use Rattle.network.proofs.Marking.{round-accepted, every-arc}
 use Rattle.network.proofs.RoundLimits.{rounded-within}
 
@@ -38,16 +38,22 @@ outcome-within k next x w f = go (eq-or-ne k 0)
 fresh-net-within : (n origin : ℕ) (z : Net) → FreshEffect n origin z → sizeFault n origin ≡ false → Within z
 fresh-net-within n origin z f e =
     record {
-      size = rw (f .nodes, f .origin-is) e;
+      size = rw (n-is, o-is) e;
       arc-pair = λ s r h. absurd (omega (arith, f .cost s r));
       arc-cost = λ s r. omega (arith, f .cost s r);
-      origin-row = rw (f .origin-is) (f .origin-row);
-      origin-only = λ y l q. rw (f .origin-is) (only y l q (eq-or-ne y origin));
+      origin-row = rw o-is (f .origin-row);
+      origin-only = λ y l q. rw o-is (only y l q (eq-or-ne y origin));
       row-node = λ y d p l q. no-via y d p l q (eq-or-ne y origin);
       row-form = λ y d p l q. no-via y d p l q (eq-or-ne y origin);
       report-form = λ s r d l q. empty-told (z .held s r) (f .held s r) q;
     }
   where
+    n-is : z .nodes ≡ n
+    n-is = nodes-stay (f .framed)
+
+    o-is : z .origin ≡ origin
+    o-is = origin-stay (f .framed)
+
     only : (y l : ℕ) → z .row y ≡ root l → (y ≡ origin) ⊎ (y ≢ origin) → y ≡ origin
     only y l q (inl k) = k
     only y l q (inr k) = none-root (z .row y) (f .relay-row y k) q
@@ -94,16 +100,9 @@ module _ (x : Net) (w : Within x) (s r c : ℕ) (z : Net) (f : ChangeEffect x s 
 
   changed-within : pairFault (x .nodes) s r ≡ false → c ≤ maxCost → Within z
   changed-within e h =
-      record {
-        size = rw (f .nodes, f .origin) (w .size);
-        arc-pair = λ a b k. rw (f .nodes) (changed-pair e a b (same-pair a b s r) k);
-        arc-cost = λ a b. changed-cost h a b (same-pair a b s r);
-        origin-row = rw (f .row, f .origin) (w .origin-row);
-        origin-only = λ y l q. rw (f .origin) (w .origin-only y l (rw (f .row) at q));
-        row-node = λ y d p l q. rw (f .nodes) (w .row-node y d p l (rw (f .row) at q));
-        row-form = λ y d p l q. rw (f .nodes, f .origin) (w .row-form y d p l (rw (f .row) at q));
-        report-form = λ a b d l q. rw (f .nodes) (changed-report a b d l (same-pair a b s r) q);
-      }
+      within-by x z w (f .stays)
+      (record { pair = λ a b k. changed-pair e a b (same-pair a b s r) k; small = λ a b. changed-cost h a b (same-pair a b s r) })
+      (rw (f .row) (row-limits w)) (λ a b d l q. changed-report a b d l (same-pair a b s r) q)
 
 pub change-within : (x : Net) → Within x → (s r c : ℕ) → Within (changeOf x s r c .net)
 unfolding changeOf
@@ -158,16 +157,14 @@ module _ (x : Net) (w : Within x) (y d p l : ℕ) (z : Net) (f : PlaceRowEffect 
 
   placed-row-within : nodeFault (x .nodes) y ≡ false → rowFault (x .nodes) (x .origin) y d p l ≡ false → Within z
   placed-row-within node form =
-      record {
-        size = rw (f .nodes, f .origin) (w .size);
-        arc-pair = λ s r h. rw (f .nodes) (w .arc-pair s r (rw (f .cost) at h));
-        arc-cost = λ s r. rw (f .cost) (w .arc-cost s r);
-        origin-row = rw (f .origin) (f .row-else (x .origin) (λ e. row-says (x .nodes) (x .origin) y d p l form .relay (sym e)) ∙ w .origin-row);
-        origin-only = λ a k h. rw (f .origin) (placed-origin a k h (eq-or-ne a y));
-        row-node = λ a e q k h. rw (f .nodes) (placed-row a e q k h (λ i _ _ _. rw i node) (w .row-node a e q k));
-        row-form = λ a e q k h. rw (f .nodes, f .origin) (placed-row a e q k h (λ i g j m. rw (i, ← g, ← j, ← m) form) (w .row-form a e q k));
-        report-form = λ s r e k h. rw (f .nodes, f .cost) (w .report-form s r e k (rw (f .held) at h));
-      }
+      within-by x z w (f .stays) (rw (f .cost) (arc-limits w))
+      (record {
+        origin-row = f .row-else (x .origin) (λ e. row-says (x .nodes) (x .origin) y d p l form .relay (sym e)) ∙ w .origin-row;
+        origin-only = λ a k h. placed-origin a k h (eq-or-ne a y);
+        node = λ a e q k h. placed-row a e q k h (λ i _ _ _. rw i node) (w .row-node a e q k);
+        form = λ a e q k h. placed-row a e q k h (λ i g j m. rw (i, ← g, ← j, ← m) form) (w .row-form a e q k);
+      })
+      (λ s r e k h. rw (f .cost) (w .report-form s r e k (rw (f .held) at h)))
 
 pub place-row-within : (x : Net) → Within x → (y d p l : ℕ) → Within (placeRowOf x y d p l .net)
 unfolding placeRowOf
@@ -192,16 +189,8 @@ module _ (x : Net) (w : Within x) (s r d l : ℕ) (z : Net) (f : PlaceReportEffe
 
   placed-report-within : reportFault (x .nodes) (x .cost s r) s d l ≡ false → Within z
   placed-report-within form =
-      record {
-        size = rw (f .nodes, f .origin) (w .size);
-        arc-pair = λ a b h. rw (f .nodes) (w .arc-pair a b (rw (f .cost) at h));
-        arc-cost = λ a b. rw (f .cost) (w .arc-cost a b);
-        origin-row = rw (f .row, f .origin) (w .origin-row);
-        origin-only = λ y k q. rw (f .origin) (w .origin-only y k (rw (f .row) at q));
-        row-node = λ y e p k q. rw (f .nodes) (w .row-node y e p k (rw (f .row) at q));
-        row-form = λ y e p k q. rw (f .nodes, f .origin) (w .row-form y e p k (rw (f .row) at q));
-        report-form = λ a b e k q. rw (f .nodes, f .cost) (placed-form form a b e k q (same-pair a b s r));
-      }
+      within-by x z w (f .stays) (rw (f .cost) (arc-limits w)) (rw (f .row) (row-limits w))
+      (λ a b e k q. rw (f .cost) (placed-form form a b e k q (same-pair a b s r)))
 
 pub place-report-within : (x : Net) → Within x → (s r d l : ℕ) → Within (placeReportOf x s r d l .net)
 unfolding placeReportOf

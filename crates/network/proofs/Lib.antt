@@ -1,17 +1,23 @@
-pub mod Offers
-pub mod Choosing
+-- Laws of the definitions in specs/, by what they are about. Crates above cite these and not the definitions' texts; the first line of each file says
+-- what it has.
+
+-- faults, limits and numbers
 pub mod FaultLaws
 pub mod Limits
-pub mod Grades
-pub mod Reports
-pub mod Effects
 pub mod Accepting
-pub mod Marking
+pub mod Numbers
 pub mod Distinct
-pub mod RoundLimits
+-- what each call does, and that it keeps a network within limits
+pub mod Effects
 pub mod Keeping
-mod Least
-mod Bits
+-- a round: marks, offers, the choice, and its limits
+pub mod Reports
+pub mod Marking
+pub mod Offers
+pub mod Choosing
+pub mod RoundLimits
+-- grades
+pub mod Grades
+-- the route call
 pub mod Walking
 pub mod RouteLaws
-pub mod Numbers

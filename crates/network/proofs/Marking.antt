@@ -68,7 +68,7 @@ mark-says ms s r e =
 
 -- an accepted round call has 32 words, no mark out of range and none without an arc
 pub record RoundAccepted (x : Net) (ms : List ℕ) : Type 0 where
-  pub words : length ms ≡ 32
+  pub full : length ms ≡ 32
   pub range : (s r : ℕ) → marked ms s r ≡ true → pairFault (x .nodes) s r ≡ false
   pub arcs : (s r : ℕ) → marked ms s r ≡ true → 0 < x .cost s r
 
@@ -93,7 +93,7 @@ unfolding roundNumber strayMark idleMark
 round-accepted x ms e =
     let k = three-tests (not (eqb (length ms) 32)) (strayMark (x .nodes) (marked ms)) (idleMark (x .cost) (marked ms)) e in
     record {
-      words = eqb-true (length ms) 32 (not-false (eqb (length ms) 32) (k .0));
+      full = eqb-true (length ms) 32 (not-false (eqb (length ms) 32) (k .0));
       range = marked-fails ms (pairFault (x .nodes)) (k .1);
       arcs = λ s r m. omega (arith, eqb-false (x .cost s r) 0 (marked-fails ms (λ s r. eqb (x .cost s r) 0) (k .2) s r m));
     }

@@ -8,7 +8,7 @@ use native.Mathlib.Omega.{arith}
 use lib.Dec.{ltb}
 use borrow.Author.Tests.{le-ltb, ltb-true, ltb-false}
 use Rattle.ancestors.specs.Ancestors.{has}
-use Rattle.ancestors.proofs.Cases.{bool-cases, eq-or-ne, le-or-lt}
+use Rattle.ancestors.proofs.Cases.{bool-cases, eq-or-ne, le-or-lt, clash}
 use Rattle.network.specs.Faults.{maxLabel}
 use Rattle.network.specs.Network.{Report, empty, told}
 use Rattle.network.specs.Round.{offer, Winner, nobody, sender, against, winner}
@@ -28,7 +28,7 @@ pub record Made (y c : ℕ) (h : Report) (v : ℕ) : Type 0 where
 
 -- no offer is both nothing and a sum
 pub nothing-sum : {A : Type 0} {v : ℕ} (o : Offer) → o ≡ Nothing → o ≡ Sum v → A
-nothing-sum o p q = let z : _≡_ {A = ℕ} 0 1 = cc in absurd (omega arith)
+nothing-sum o p q = clash cc
 
 -- a sum comes from a report that makes it
 pub made : (y c : ℕ) (h : Report) (v : ℕ) → offer y c h ≡ Sum v → Made y c h v

@@ -3,7 +3,7 @@
 use mathlib.Core.Path.{_≡_, ap}
 use mathlib.Core.Logic.{_⊎_, inl, inr}
 use Prim.Native.Nat.{ℕ}
-use native.Mathlib.Omega.{arith}
+use Rattle.ancestors.proofs.Cases.{clash}
 use Rattle.network.specs.Network.{Row, none, root, via, told}
 use Rattle.network.specs.Round.{report}
 
@@ -18,6 +18,6 @@ via-told e = ap report e
 -- a report that is not empty is of a row with a route
 pub told-row : (w : Row) (d l : ℕ) → report w ≡ told d l → ((w ≡ root l) × (0 ≡ d)) ⊎ ((p : ℕ) × (w ≡ via d p l))
 unfolding report
-told-row none d l e = let z : _≡_ {A = ℕ} 0 1 = cc in absurd (omega arith)
+told-row none d l e = clash cc
 told-row (root l′) d l e = inl (cc, cc)
 told-row (via d′ p l′) d l e = inr (p, cc)

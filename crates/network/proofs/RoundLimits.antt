@@ -15,7 +15,7 @@ use Rattle.network.specs.Round.{Marks, report, choice}
 use Rattle.network.proofs.Choosing.{Came, came, choice-no-root}
 use Rattle.network.proofs.Distinct.{root-via, empty-told}
 use Rattle.network.proofs.FaultLaws.{node-free, ReportForm, report-says, report-free, RowForm, row-free}
-use Rattle.network.proofs.Limits.{within-size, within-arc, within-row}
+use Rattle.network.proofs.Limits.{within-size, within-arc, within-row, arc-limits, within-by}
 use Rattle.network.proofs.Effects.{RoundEffect}
 
 module _ (x : Net) (w : Within x) where
@@ -97,13 +97,6 @@ module _ (x : Net) (w : Within x) where
 
     pub rounded-within : Within z
     rounded-within =
-        record {
-          size = rw (f .nodes, f .origin) (w .size);
-          arc-pair = λ s r h. rw (f .nodes) (w .arc-pair s r (rw (f .cost) at h));
-          arc-cost = λ s r. rw (f .cost) (w .arc-cost s r);
-          origin-row = rw (f .origin) (f .origin-row ∙ w .origin-row);
-          origin-only = λ y l q. rw (f .origin) (round-origin-only y l q);
-          row-node = λ y d p l q. rw (f .nodes) (round-row-node y d p l q);
-          row-form = λ y d p l q. rw (f .nodes, f .origin) (round-row-form y d p l q);
-          report-form = λ s r d l q. rw (f .nodes, f .cost) (report-free (x .nodes) (x .cost s r) s d l (heard-form s r d l q));
-        }
+        within-by x z w (f .stays) (rw (f .cost) (arc-limits w))
+        (record { origin-row = f .origin-row ∙ w .origin-row; origin-only = round-origin-only; node = round-row-node; form = round-row-form })
+        (λ s r d l q. rw (f .cost) (report-free (x .nodes) (x .cost s r) s d l (heard-form s r d l q)))

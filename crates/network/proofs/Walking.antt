@@ -8,7 +8,7 @@ use Prim.Native.Nat.{ℕ, zero, suc, _+_, _<_, _≤_}
 use native.Mathlib.Omega.{arith}
 use lib.ListN.{length}
 use Rattle.ancestors.specs.Ancestors.{has, put, count}
-use Rattle.ancestors.proofs.Cases.{bool-cases, never}
+use Rattle.ancestors.proofs.Cases.{bool-cases, never, clash}
 use Rattle.ancestors.proofs.Counting.{count-le, count-more}
 use Rattle.ancestors.proofs.Laws.{has-put-same, has-kept}
 use Rattle.network.specs.Faults.{maxNodes, nodeFault}
@@ -156,8 +156,8 @@ cons-below n y route h b a i = ⊎-elim (λ e. omega arith) (λ j. b a j) (List�
 walks-to : (x : Net) (z : ℕ) {y met : ℕ} {route : List ℕ} {w : Walked} → Walks x y met route w → (whole : List ℕ) → w ≡ reached whole →
     (front : List ℕ) × (y ∷ route ≡ front ++ z ∷ []) → length route ≤ count (has met) (x .nodes) →
     ((a : ℕ) → List·Memᴰ a route → a < x .nodes) → RouteTo x z whole
-walks-to x z (again m) whole e f s b = let q : _≡_ {A = ℕ} 0 1 = cc in absurd (omega arith)
-walks-to x z (lost m r) whole e f s b = let q : _≡_ {A = ℕ} 0 1 = cc in absurd (omega arith)
+walks-to x z (again m) whole e f s b = clash cc
+walks-to x z (lost m r) whole e f s b = clash cc
 walks-to x z {y} {met} {route} (arrived l m r) whole e f s b =
     let same : y ∷ route ≡ whole = cc in
     let node = root-node x y l r in

@@ -1,6 +1,6 @@
--- Document 01, "What input alone brings on": the limits, and the conditions behind numbers 3 and 5, each by itself.
+-- Document 01, "What input alone brings on": the limits, the conditions behind numbers 3 and 5, each by itself, and the order of numbers.
 -- Assumes nothing.
-use mathlib.Core.Bool.{Bool, not, _||_}
+use mathlib.Core.Bool.{Bool, cond, not, _||_}
 use Prim.Native.Nat.{ℕ, _*_, _^_}
 use lib.Dec.{eqb, ltb, leb}
 use Rattle.ancestors.specs.Ancestors.{has}
@@ -8,6 +8,10 @@ use Rattle.ancestors.specs.Ancestors.{has}
 -- the most nodes
 abbrev pub maxNodes : ℕ
 maxNodes = 32
+
+-- the pairs of so many nodes, those of equal nodes among them
+abbrev pub pairCount : ℕ
+pairCount = maxNodes * maxNodes
 
 -- the largest cost
 abbrev pub maxCost : ℕ
@@ -20,6 +24,10 @@ maxLabel = 31 * maxCost
 -- the highest grade
 abbrev pub maxGrade : ℕ
 maxGrade = 15
+
+-- the largest number with which a change, a round or a record of a file is refused
+abbrev pub maxRefusal : ℕ
+maxRefusal = 7
 
 -- ---- 3, range
 
@@ -76,3 +84,9 @@ rowFault n origin y d p l = originFault origin y || (rowLabelFault d || (predece
 -- a report of sender s over an arc of cost c has one of these faults
 unfoldable pub reportFault : ℕ → ℕ → ℕ → ℕ → ℕ → Bool
 reportFault n c s d l = arcFault c || (reportLabelFault d || listFault n s l)
+
+-- ---- order
+
+-- the first of two numbers that is not 0
+unfoldable pub firstOf : ℕ → ℕ → ℕ
+firstOf a b = cond (eqb a 0) b a

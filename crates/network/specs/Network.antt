@@ -18,6 +18,11 @@ pub data Report : Type 0 where
   empty : Report
   told : ℕ → ℕ → Report
 
+-- what no call on a network changes
+pub record Frame : Type 0 where
+  pub nodes : ℕ
+  pub origin : ℕ
+
 -- a network; costs and held reports go by sender, then receiver, and cost 0 is no arc
 pub record Net : Type 0 where
   pub nodes : ℕ
@@ -34,15 +39,25 @@ setAt f y v a = cond (eqb a y) v (f a)
 unfoldable pub setPair : {A : Type 0} → (ℕ → ℕ → A) → ℕ → ℕ → A → ℕ → ℕ → A
 setPair f s r v a b = cond (eqb a s && eqb b r) v (f a b)
 
+-- x with other costs, rows or held reports
+abbrev pub withCosts : Net → (ℕ → ℕ → ℕ) → Net
+withCosts x f = record { nodes = x .nodes; origin = x .origin; cost = f; row = x .row; held = x .held }
+
+abbrev pub withRows : Net → (ℕ → Row) → Net
+withRows x f = record { nodes = x .nodes; origin = x .origin; cost = x .cost; row = f; held = x .held }
+
+abbrev pub withReports : Net → (ℕ → ℕ → Report) → Net
+withReports x f = record { nodes = x .nodes; origin = x .origin; cost = x .cost; row = x .row; held = f }
+
 -- x with another cost, row or held report
 unfoldable pub withCost : Net → ℕ → ℕ → ℕ → Net
-withCost x s r c = record { nodes = x .nodes; origin = x .origin; cost = setPair (x .cost) s r c; row = x .row; held = x .held }
+withCost x s r c = withCosts x (setPair (x .cost) s r c)
 
 unfoldable pub withRow : Net → ℕ → Row → Net
-withRow x y w = record { nodes = x .nodes; origin = x .origin; cost = x .cost; row = setAt (x .row) y w; held = x .held }
+withRow x y w = withRows x (setAt (x .row) y w)
 
 unfoldable pub withHeld : Net → ℕ → ℕ → Report → Net
-withHeld x s r h = record { nodes = x .nodes; origin = x .origin; cost = x .cost; row = x .row; held = setPair (x .held) s r h }
+withHeld x s r h = withReports x (setPair (x .held) s r h)
 
 -- what a call answers and leaves: a number, 0 where it is accepted, and the network after it
 pub record Outcome : Type 0 where

@@ -7,7 +7,7 @@ use lib.Dec.{eqb, ltb}
 use lib.ListN.{length, getD}
 use Rattle.ancestors.specs.Ancestors.{has, put}
 use Rattle.network.specs.Faults.{maxLabel, pairFault}
-use Rattle.network.specs.Network.{Row, none, root, via, Report, empty, told, Net, Outcome, outcome}
+use Rattle.network.specs.Network.{Row, none, root, via, Report, empty, told, Net, withRows, withReports, Outcome, outcome}
 use Rattle.network.specs.declared.Offer.{Offer}
 use Rattle.network.specs.declared.Offer.the-variants.{Nothing, Sum}
 
@@ -25,14 +25,7 @@ report (via d p l) = told d l
 
 -- for each marked arc the held report becomes what the sender's row reports; unmarked arcs keep theirs
 unfoldable pub hear : Marks → Net → Net
-hear m x =
-    record {
-      nodes = x .nodes;
-      origin = x .origin;
-      cost = x .cost;
-      row = x .row;
-      held = λ s r. cond (m s r) (report (x .row s)) (x .held s r);
-    }
+hear m x = withReports x (λ s r. cond (m s r) (report (x .row s)) (x .held s r))
 
 -- ---- offers
 
@@ -75,13 +68,7 @@ choice n cost held y = rowBy y held (winner (λ s. offer y (cost s) (held s)) n)
 -- every node below k but the origin gets a new row; its old row plays no part
 unfoldable pub renewTo : ℕ → Net → Net
 renewTo k x =
-    record {
-      nodes = x .nodes;
-      origin = x .origin;
-      cost = x .cost;
-      row = λ y. cond (ltb y k && not (eqb y (x .origin))) (choice (x .nodes) (λ s. x .cost s y) (λ s. x .held s y) y) (x .row y);
-      held = x .held;
-    }
+    withRows x (λ y. cond (ltb y k && not (eqb y (x .origin))) (choice (x .nodes) (λ s. x .cost s y) (λ s. x .held s y) y) (x .row y))
 
 -- every node but the origin gets a new row
 unfoldable pub renew : Net → Net

@@ -7,7 +7,7 @@ use Prim.Native.Nat.{ℕ, zero, suc, _<_, _≤_}
 use lib.Dec.{ltb}
 use lib.ListN.{length}
 use Rattle.ancestors.specs.Ancestors.{has, put}
-use Rattle.network.specs.Faults.{maxNodes, nodeFault}
+use Rattle.network.specs.Faults.{maxNodes, nodeFault, firstOf}
 use Rattle.network.specs.Network.{Row, none, root, via, Net}
 use Rattle.network.specs.Writing.{Writing, writing}
 
@@ -46,14 +46,18 @@ unrouted none = true
 unrouted (root l) = false
 unrouted (via d p l) = false
 
--- 9 for a walk that does not reach the origin, then 6 for an output shorter than the route
+-- before the walk: 3 for a node not below n, then 8 for a node without a route
+unfoldable pub startNumber : Net → ℕ → ℕ
+startNumber x y = cond (nodeFault (x .nodes) y) 3 (cond (unrouted (x .row y)) 8 0)
+
+-- then 9 for a walk that does not reach the origin, then 6 for an output shorter than the route
 unfoldable pub walkNumber : ℕ → Walked → ℕ
 walkNumber room broken = 9
 walkNumber room (reached route) = cond (ltb room (length route)) 6 0
 
--- 3 for a node not below n, 8 for a node without a route, then 9, then 6
+-- for a route: 3, 8, 9, 6
 unfoldable pub routeNumber : Net → ℕ → ℕ → ℕ
-routeNumber x y room = cond (nodeFault (x .nodes) y) 3 (cond (unrouted (x .row y)) 8 (walkNumber room (walkBack x y)))
+routeNumber x y room = firstOf (startNumber x y) (walkNumber room (walkBack x y))
 
 -- accepted, the nodes from the origin to y, one byte each
 unfoldable pub routeOf : Net → ℕ → List ℕ → Writing

@@ -31,7 +31,7 @@ begin s x start p h = record { fuel = length s; enough = omega arith; within = h
 module _ (whole : Opening) (s : List ℕ) (x : Net) (next at : ℕ) (g : Going whole s x next at) (c : Record) (is : c ≡ recordOf inImage at (drop at s))
     (r : Next) (z : Net) (p : Places x next (c .event) r z) where
   abbrev after : ℕ → Step → Opening
-  after f t = afterStep (λ w k. readRecords f w k (at + c .length) (drop (c .length) (drop at s))) x at t
+  after f t = afterStep (λ w k. readRecords f w k (at + c .used) (drop (c .used) (drop at s))) x at t
 
   one-more : (f : ℕ) → length s - at < f → readRecords f x next at (drop at s) ≡ whole → (h : ℕ) × (f ≡ suc h) × (after h (stepMeans r z) ≡ whole)
   unfolding readRecords
@@ -40,7 +40,7 @@ module _ (whole : Opening) (s : List ℕ) (x : Net) (next at : ℕ) (g : Going w
     h,
     refl,
     ap (after h) (p .step)
-        ∙ ap (λ (d : Record). afterStep (λ w k. readRecords h w k (at + d .length) (drop (d .length) (drop at s))) x at (placed x next (d .event))) is ∙ q,
+        ∙ ap (λ (d : Record). afterStep (λ w k. readRecords h w k (at + d .used) (drop (d .used) (drop at s))) x at (placed x next (d .event))) is ∙ q,
   )
 
   more : (h : ℕ) × (g .fuel ≡ suc h) × (after h (stepMeans r z) ≡ whole)
@@ -55,17 +55,17 @@ module _ (whole : Opening) (s : List ℕ) (x : Net) (next at : ℕ) (g : Going w
   at-end h = ap (λ w. finishMeans (Accepted (at + 1)) w) (p .ended h) ∙ ap (λ t. after (more .0) (stepMeans t z)) (sym h) ∙ more .2
 
   module _ (k : ℕ) (h : r ≡ Onward k) where
-    some : 0 < c .length
+    some : 0 < c .used
     unfolding stepMeans
     some =
         rw is (length-some inImage at (drop at s)
         (onward-read x next (recordOf inImage at (drop at s) .event) z k
         (ap (λ t. stepMeans t z) (sym h) ∙ p .step ∙ ap (λ (d : Record). placed x next (d .event)) is)))
 
-    inside : c .length ≤ length s - at
-    inside = omega (arith, ap (λ (d : Record). d .length) is, length-within inImage at (drop at s), length-drop at s)
+    inside : c .used ≤ length s - at
+    inside = omega (arith, ap (λ (d : Record). d .used) is, length-within inImage at (drop at s), length-drop at s)
 
-    pub at-next : Going whole s z k (at + c .length) × (0 < c .length) × (at + c .length ≤ length s)
+    pub at-next : Going whole s z k (at + c .used) × (0 < c .used) × (at + c .used ≤ length s)
     unfolding stepMeans
     at-next =
         let w = g .within in
@@ -75,7 +75,7 @@ module _ (whole : Opening) (s : List ℕ) (x : Net) (next at : ℕ) (g : Going w
             fuel = m .0;
             enough = omega (arith, some, inside, m .1);
             within = omega (arith, inside);
-            same = ap (readRecords (m .0) z k (at + c .length)) (sym (drop-drop (c .length) at s)) ∙ ap (λ t. after (m .0) (stepMeans t z)) (sym h) ∙ m .2;
+            same = ap (readRecords (m .0) z k (at + c .used)) (sym (drop-drop (c .used) at s)) ∙ ap (λ t. after (m .0) (stepMeans t z)) (sym h) ∙ m .2;
           },
           some,
           omega (arith, inside),

@@ -7,6 +7,7 @@ use Prim.Native.Nat.{ℕ, _<_, _≤_}
 use native.Mathlib.Omega.{arith}
 use lib.ListN.{length, drop}
 use borrow.Author.Tests.{eq-eqb, ne-eqb}
+use Rattle.ancestors.proofs.Cases.{clash}
 use Rattle.network.specs.Network.{freshNet, freshNumber, freshOf}
 use Rattle.network.proofs.Accepting.{fresh-free}
 use Rattle.network.proofs.Effects.{number-of, net-accepted, net-refused, fresh-outcome}
@@ -14,14 +15,14 @@ use Rattle.network.proofs.FaultLaws.{size-free}
 use Rattle.memory.specs.Layout.{view}
 use Rattle.memory.specs.Answers.{Starts}
 use Rattle.records.specs.Records.{atStart, recordOf}
-use Rattle.records.specs.Opening.{Opening, refusedOpening, readRecords, started, openOf}
+use Rattle.records.specs.Opening.{Opening, refusedOpening, readRecords, started, openOf, headed}
 use Rattle.records.specs.declared.Event.{Event}
 use Rattle.records.specs.declared.Event.the-variants.{Header, Refusal}
 use Rattle.records.specs.declared.Record.{Record}
 use Rattle.records.proofs.Reading.{length-within, length-some}
 use Rattle.opening.specs.declared.Finish.{Finish}
 use Rattle.opening.specs.declared.Finish.the-variants.{Refused, Accepted}
-use Rattle.opening.specs.Answers.{Opens, finishMeans, headed}
+use Rattle.opening.specs.Answers.{Opens, finishMeans}
 
 -- the same opening
 opens-same : {o p : Opening} {k at used : ℕ} {words : List ℕ} → o ≡ p → Opens o k at used words → Opens p k at used words
@@ -81,17 +82,17 @@ module _ (bs : List ℕ) (c : Record) (is : c ≡ recordOf atStart 0 (drop 0 bs)
   opening-of o q = opens-same (q ∙ ap (started bs c) (sym h) ∙ ap (λ (d : Record). started bs d (d .event)) is)
 
 -- a header lies within the bytes
-pub header-within : (bs : List ℕ) (c : Record) → c ≡ recordOf atStart 0 (drop 0 bs) → (n o : ℕ) → c .event ≡ Header n o → (0 < c .length) × (c .length ≤ length bs)
+pub header-within : (bs : List ℕ) (c : Record) → c ≡ recordOf atStart 0 (drop 0 bs) → (n o : ℕ) → c .event ≡ Header n o → (0 < c .used) × (c .used ≤ length bs)
 header-within bs c is n o h =
-    let l = ap (λ (d : Record). d .length) is in (
-      omega (arith, l, length-some atStart 0 (drop 0 bs) (λ e p q. clash e p (ap (λ (d : Record). d .event) is ∙ q))),
+    let l = ap (λ (d : Record). d .used) is in (
+      omega (arith, l, length-some atStart 0 (drop 0 bs) (λ e p q. other e p (ap (λ (d : Record). d .event) is ∙ q))),
       omega (arith, l, length-within atStart 0 (drop 0 bs)),
     )
   where
-    clash : (e p : ℕ) → c .event ≡ Refusal e p → ⊥
-    clash e p q = let z : _≡_ {A = ℕ} 0 1 = cc in omega arith
+    other : (e p : ℕ) → c .event ≡ Refusal e p → ⊥
+    other e p q = clash cc
 
 -- what follows a header
-pub started-header : (bs : List ℕ) (c : Record) (n o : ℕ) → headed bs (c .length) n o ≡ started bs c (Header n o)
-unfolding headed started
-started-header bs c n o = refl
+pub header-started : (bs : List ℕ) (c : Record) (n o : ℕ) → headed bs (c .used) n o ≡ started bs c (Header n o)
+unfolding started
+header-started bs c n o = refl

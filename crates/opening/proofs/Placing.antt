@@ -8,8 +8,8 @@ use Prim.Native.Nat.{ℕ, suc, _<_, _≤_}
 use native.Mathlib.Numerals.{add-one}
 use native.Mathlib.Omega.{arith}
 use borrow.Author.Tests.{eq-eqb, ne-eqb, lt-ltb, le-ltb}
-use Rattle.ancestors.proofs.Cases.{eq-or-ne}
-use Rattle.network.specs.Faults.{maxCost, nodeFault, pairFault}
+use Rattle.ancestors.proofs.Cases.{eq-or-ne, clash}
+use Rattle.network.specs.Faults.{maxCost, nodeFault, pairFault, firstOf}
 use Rattle.network.specs.Network.{via, told, Net, withRow, withHeld, Outcome, outcome}
 use Rattle.network.specs.Placing.{placeRowNumber, placeRowOf, placeReportNumber, placeReportOf}
 use Rattle.network.specs.Change.{changed, changeNumber, changeOf}
@@ -22,7 +22,7 @@ use Rattle.memory.proofs.Laws.{few}
 use Rattle.records.specs.declared.ArcChange.the-variants.{Set}
 use Rattle.records.specs.declared.Event.{Event}
 use Rattle.records.specs.declared.Event.the-variants.{End, Change, Row, Report}
-use Rattle.records.specs.Opening.{arcRank, rowRank, reportRank, orderNumber, firstOf, arcNumber, rowNumber, reportNumber, stop, onward, judged, placed}
+use Rattle.records.specs.Opening.{arcRank, rowRank, reportRank, orderNumber, arcNumber, rowNumber, reportNumber, stop, onward, judged, placed}
 use Rattle.opening.specs.declared.Next.{Next}
 use Rattle.opening.specs.declared.Next.the-variants.{Stopped, Finished, Onward}
 use Rattle.opening.specs.Answers.{stepMeans, nextOf, Places}
@@ -32,7 +32,7 @@ use Rattle.opening.specs.Answers.{stepMeans, nextOf, Places}
 -- a refusal
 pub stops : (x : Net) (next : ℕ) (e : Event) (k : ℕ) (z : Net) → placed x next e ≡ stop k → Places x next e (Stopped k) z
 unfolding stepMeans
-stops x next e k z p = record { step = sym p; ended = λ q. let w : _≡_ {A = ℕ} 0 1 = cc in absurd (omega arith) }
+stops x next e k z p = record { step = sym p; ended = λ q. clash cc }
 
 -- the end of an image
 pub ends : (x : Net) (next : ℕ) → Places x next End Finished x
@@ -58,14 +58,14 @@ goes x next e number z rank k xs ys r p is l q = go (eq-or-ne number 0)
         let b : placed x next e ≡ onward z (suc rank) = p ∙ rw (eq-eqb number 0 h) in
         record {
           step = ap (λ t. stepMeans t (view ys)) a ∙ ap (λ w. onward w (suc rank)) (l .net ∙ net-accepted _ _ _ is h) ∙ sym b;
-          ended = λ f. let w : _≡_ {A = ℕ} 0 1 = cc in absurd (omega arith);
+          ended = λ f. clash cc;
         }
     go (inr h) =
         let a : r ≡ Stopped k = q ∙ rw (ne-eqb k 0 (λ f. h (sym same ∙ f))) in
         let b : placed x next e ≡ stop number = p ∙ rw (ne-eqb number 0 h) in
         record {
           step = ap (λ t. stepMeans t (view ys)) a ∙ ap stop same ∙ sym b;
-          ended = λ f. let w : _≡_ {A = ℕ} 0 1 = cc in absurd (omega arith);
+          ended = λ f. clash cc;
         }
 
 -- ---- tests in their order: the number a of range, the order of a rank, a number m of form
@@ -84,9 +84,9 @@ module _ (a next m : ℕ) (z : Net) (rank : ℕ) (h : a ≡ 0) where
   judged-form o = rw (h, le-ltb rank next o)
 
 -- no fault of form
-first-none : (a : ℕ) → firstOf a 0 ≡ a
+first-only : (a : ℕ) → firstOf a 0 ≡ a
 unfolding firstOf
-first-none a = go (eq-or-ne a 0)
+first-only a = go (eq-or-ne a 0)
   where
     go : (a ≡ 0) ⊎ (a ≢ 0) → firstOf a 0 ≡ a
     go (inl e) = rw (eq-eqb a 0 e, e)
@@ -109,7 +109,7 @@ module _ (xs : List ℕ) (n next s r c : ℕ) (is : n ≡ view xs .nodes) where
 
   arc-is : placed (view xs) next (Change (Set s r c)) ≡ judged (firstOf range (firstOf (orderNumber next (arcRank s r)) 0)) arc (arcRank s r)
   unfolding placed arcNumber
-  arc-is = rw (first-none (orderNumber next (arcRank s r)))
+  arc-is = rw (first-only (orderNumber next (arcRank s r)))
 
   arc-range : range ≡ 3 → Places (view xs) next (Change (Set s r c)) (Stopped 3) (view xs)
   arc-range h = stops (view xs) next (Change (Set s r c)) 3 (view xs) (arc-is ∙ judged-range range _ arc (arcRank s r) h)
@@ -128,9 +128,9 @@ module _ (xs : List ℕ) (n next s r c : ℕ) (is : n ≡ view xs .nodes) where
       pub arc-order : arcRank s r < next → Places (view xs) next (Change (Set s r c)) (Stopped 4) (view xs)
       arc-order o = stops (view xs) next (Change (Set s r c)) 4 (view xs) (arc-is ∙ judged-order range next 0 arc (arcRank s r) free o)
 
-      pub arc-placed : next ≤ arcRank s r → (k : ℕ) (ys : List ℕ) (t : Next) → Leaves (changeOf (view xs) s r c) k xs ys → t ≡ nextOf k (arcRank s r)
+      pub arc-done : next ≤ arcRank s r → (k : ℕ) (ys : List ℕ) (t : Next) → Leaves (changeOf (view xs) s r c) k xs ys → t ≡ nextOf k (arcRank s r)
           → Places (view xs) next (Change (Set s r c)) t (view ys)
-      arc-placed o k ys t l q =
+      arc-done o k ys t l q =
           goes (view xs) next (Change (Set s r c)) range arc (arcRank s r) k xs ys t
           (arc-is ∙ judged-form range next 0 arc (arcRank s r) free o ∙ ap (λ b. judged b arc (arcRank s r)) (sym free)) (change-outcome (view xs) s r c) l q
 
@@ -155,9 +155,9 @@ module _ (xs : List ℕ) (n next y d p l : ℕ) (is : n ≡ view xs .nodes) wher
     pub row-order : rowRank y < next → Places (view xs) next (Row y d p l) (Stopped 4) (view xs)
     row-order o = stops (view xs) next (Row y d p l) 4 (view xs) (row-is ∙ judged-order _ next _ row (rowRank y) node o)
 
-    pub row-placed : next ≤ rowRank y → (k : ℕ) (ys : List ℕ) (t : Next) → Leaves (placeRowOf (view xs) y d p l) k xs ys → t ≡ nextOf k (rowRank y)
+    pub row-done : next ≤ rowRank y → (k : ℕ) (ys : List ℕ) (t : Next) → Leaves (placeRowOf (view xs) y d p l) k xs ys → t ≡ nextOf k (rowRank y)
         → Places (view xs) next (Row y d p l) t (view ys)
-    row-placed o k ys t v q =
+    row-done o k ys t v q =
         goes (view xs) next (Row y d p l) (placeRowNumber (view xs) y d p l) row (rowRank y) k xs ys t
         (row-is ∙ judged-form _ next (placeRowNumber (view xs) y d p l) row (rowRank y) node o) (place-row-outcome (view xs) y d p l) v q
 
@@ -182,8 +182,8 @@ module _ (xs : List ℕ) (n next s r d l : ℕ) (is : n ≡ view xs .nodes) wher
     pub report-order : reportRank s r < next → Places (view xs) next (Report s r d l) (Stopped 4) (view xs)
     report-order o = stops (view xs) next (Report s r d l) 4 (view xs) (report-is ∙ judged-order _ next _ report (reportRank s r) pair o)
 
-    pub report-placed : next ≤ reportRank s r → (k : ℕ) (ys : List ℕ) (t : Next) → Leaves (placeReportOf (view xs) s r d l) k xs ys → t ≡ nextOf k (reportRank s r)
+    pub report-done : next ≤ reportRank s r → (k : ℕ) (ys : List ℕ) (t : Next) → Leaves (placeReportOf (view xs) s r d l) k xs ys → t ≡ nextOf k (reportRank s r)
         → Places (view xs) next (Report s r d l) t (view ys)
-    report-placed o k ys t v q =
+    report-done o k ys t v q =
         goes (view xs) next (Report s r d l) (placeReportNumber (view xs) s r d l) report (reportRank s r) k xs ys t
         (report-is ∙ judged-form _ next (placeReportNumber (view xs) s r d l) report (reportRank s r) pair o) (place-report-outcome (view xs) s r d l) v q

@@ -5,11 +5,10 @@ use mathlib.Core.Bool.{cond}
 use mathlib.Core.List.{List}
 use Prim.Native.Nat.{ℕ, _+_}
 use lib.Dec.{eqb}
-use lib.ListN.{length, drop}
-use Rattle.network.specs.Network.{Net, freshNet, freshNumber}
+use Rattle.network.specs.Network.{Net}
 use Rattle.memory.specs.Layout.{view}
 use Rattle.records.specs.declared.Event.{Event}
-use Rattle.records.specs.Opening.{Step, stop, finish, onward, placed, Opening, refusedOpening, acceptedOpening, readRecords}
+use Rattle.records.specs.Opening.{Step, stop, finish, onward, placed, Opening, refusedOpening, acceptedOpening}
 use Rattle.opening.specs.declared.Next.{Next}
 use Rattle.opening.specs.declared.Next.the-variants.{Stopped, Finished, Onward}
 use Rattle.opening.specs.declared.Finish.{Finish}
@@ -45,7 +44,3 @@ pub record Places (x : Net) (next : ℕ) (e : Event) (r : Next) (z : Net) : Type
 unfoldable pub finishMeans : Finish → Net → Opening
 finishMeans (Refused e p) x = refusedOpening e p
 finishMeans (Accepted u) x = acceptedOpening x u
-
--- the opening of the bytes bs whose first record ends at k and gives n and origin
-unfoldable pub headed : List ℕ → ℕ → ℕ → ℕ → Opening
-headed bs k n o = cond (eqb (freshNumber n o) 0) (readRecords (length bs) (freshNet n o) 0 k (drop k bs)) (refusedOpening (freshNumber n o) 0)

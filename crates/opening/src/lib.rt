@@ -5,11 +5,12 @@
 ghost use mathlib.Core.Path.{_≡_};
 ghost use Prim.Native.Nat.{_<_, _≤_};
 ghost use lib.ListN.{length, drop};
+ghost use Rattle.network.specs.Faults.{pairCount};
 ghost use Rattle.memory.specs.Layout.{view};
-ghost use Rattle.records.specs.Opening.{arcRank, refusedOpening, readRecords, openOf};
+ghost use Rattle.records.specs.Opening.{rankCount, arcRank, refusedOpening, readRecords, headed, openOf};
 ghost use Rattle.records.specs.declared.ArcChange.the-variants.{Set};
 ghost use Rattle.records.specs.declared.Event.the-variants.{Change, Row, Report};
-ghost use Rattle.opening.specs.Answers.{nextOf, Places, finishMeans, headed, Opens};
+ghost use Rattle.opening.specs.Answers.{nextOf, Places, finishMeans, Opens};
 use memory::Network;
 use records::ArcChange;
 use records::Event;
@@ -19,14 +20,6 @@ pub struct Found {
     pub number: u8,
     pub place: usize,
     pub used: usize,
-}
-
-// The same with the network by value.
-pub struct Opened {
-    pub number: u8,
-    pub place: usize,
-    pub used: usize,
-    pub net: Network,
 }
 
 // What a record of an image leads to, beside the network that is lent.
@@ -46,18 +39,25 @@ enum Finish {
 
 // ---- placing
 
+// Image order (records/specs/Opening.antt): a place for each pair of nodes, then one for each node, then one for each pair.
+const NODES: usize = network::MAX_NODES as usize;
+
+const FIRST_ROW: usize = NODES * NODES;
+
+const FIRST_REPORT: usize = FIRST_ROW + NODES;
+
 // The rank of a pair among pairs.
 fn pair_rank(sender: u32, receiver: u32) -> usize
     requires { ⌜ sender < 32 ⌝ }
     requires { ⌜ receiver < 32 ⌝ }
-    ensures { λ r. ⌜ (r ≡ arcRank sender receiver) × (r < 1024) ⌝ }
+    ensures { λ r. ⌜ (r ≡ arcRank sender receiver) × (r < pairCount) ⌝ }
 {
-    sender as usize * 32 + receiver as usize
+    sender as usize * NODES + receiver as usize
 }
 
 // What the number of a record of this rank leads to.
 fn judge(number: u8, rank: usize) -> Next
-    requires { ⌜ rank < 2080 ⌝ }
+    requires { ⌜ rank < rankCount ⌝ }
     ensures { λ r. ⌜ r ≡ nextOf number rank ⌝ }
 {
     if number == 0 {
@@ -70,7 +70,7 @@ fn judge(number: u8, rank: usize) -> Next
 fn place_arc(net: &mut Network, next: usize, sender: u32, receiver: u32, cost: u32) -> Next
     ensures { λ r. ⌜ Places (view (now (net .entry))) next (Change (Set sender receiver cost)) r (view (now (net .exit))) ⌝ }
 {
-    if network::pair_fault(memory::nodes(net), sender, receiver) {
+    if rule::pair_fault(memory::nodes(net), sender, receiver) {
         return Next::Stopped(3);
     }
     if network::MAX_COST < cost {
@@ -97,7 +97,7 @@ fn place_row(
     if memory::nodes(net) <= node {
         return Next::Stopped(3);
     }
-    let rank = 1024 + node as usize;
+    let rank = FIRST_ROW + node as usize;
     if rank < next {
         return Next::Stopped(4);
     }
@@ -115,10 +115,10 @@ fn place_report(
 ) -> Next
     ensures { λ r. ⌜ Places (view (now (net .entry))) next (Report sender receiver label list) r (view (now (net .exit))) ⌝ }
 {
-    if network::pair_fault(memory::nodes(net), sender, receiver) {
+    if rule::pair_fault(memory::nodes(net), sender, receiver) {
         return Next::Stopped(3);
     }
-    let rank = 1056 + pair_rank(sender, receiver);
+    let rank = FIRST_REPORT + pair_rank(sender, receiver);
     if rank < next {
         return Next::Stopped(4);
     }
@@ -187,7 +187,7 @@ fn read_records(net: &mut Network, input: &[u8], start: usize) -> Finish
     loop {
         let record = reading::image_record(input, at);
         let event = record.event;
-        let length = record.length;
+        let size = record.used;
         let step = place_event(net, next, event);
         match step {
             Next::Stopped(number) => {
@@ -202,7 +202,7 @@ fn read_records(net: &mut Network, input: &[u8], start: usize) -> Finish
             }
             Next::Onward { next: above } => {
                 next = above;
-                at = at + length;
+                at = at + size;
             }
         }
     }
@@ -251,7 +251,7 @@ pub fn open_into(net: &mut Network, input: &[u8]) -> Found
 {
     let first = reading::start_record(input);
     let event = first.event;
-    let start = first.length;
+    let start = first.used;
     match event {
         Event::Header { nodes, origin } => open_records(net, input, start, nodes, origin),
         Event::Refusal { number, place } => refuse(net, number, place),
@@ -271,19 +271,5 @@ pub fn open_into(net: &mut Network, input: &[u8]) -> Found
         } => refuse(net, 2, 0),
         Event::Round => refuse(net, 2, 0),
         Event::FullRound => refuse(net, 2, 0),
-    }
-}
-
-// Opens an image, and answers the network by value.
-pub fn open_image(input: &[u8]) -> Opened
-    ensures { λ r. ⌜ Opens (openOf (now (input .entry))) (r .number) (r .place) (r .used) (r .net) ⌝ }
-{
-    let mut net = [0u32; memory::WORDS];
-    let found = open_into(&mut net, input);
-    Opened {
-        number: found.number,
-        place: found.place,
-        used: found.used,
-        net: net,
     }
 }

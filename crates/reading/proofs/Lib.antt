@@ -1,1 +1,2 @@
+mod PastEnd
 mod ByKind

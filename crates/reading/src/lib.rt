@@ -1,15 +1,17 @@
-// Reading one record of a state file.
+// Reading one record of a state file, and the words of a body.
 //
-// The crate `records` has document 01's definitions; the function that others can reach has no precondition.
+// The crate `records` has document 01's definitions; the functions that others can reach have no precondition.
 ghost use mathlib.Core.Path.{_≡_};
-ghost use Prim.Native.Nat.{_+_, _*_, _<_};
+ghost use Prim.Native.Nat.{_+_, _<_};
 ghost use lib.ListN.{length, drop};
 ghost use Rattle.records.specs.Numbers.{num8, num16, num32};
-ghost use Rattle.records.specs.Records.{atStart, inImage, asEvent, arcChange, gradeChange, refusedRecord, recordOf};
+ghost use Rattle.records.specs.Records.{atStart, inImage, asEvent, arcChange, gradeChange, refusedRecord, bodied, recordOf};
 ghost use Rattle.records.specs.declared.Event.the-variants.{Header, Change, Row, Report};
 use records::ArcChange;
 use records::Event;
 use records::Record;
+
+// ---- numbers; a byte past the end counts as 0
 
 // A byte as a number of 32 bits.
 fn wide(x: u8) -> u32
@@ -20,34 +22,39 @@ fn wide(x: u8) -> u32
 
 // The number in the byte at i.
 fn get8(b: &[u8], i: usize) -> u32
-    requires { ⌜ i < length (now b) ⌝ }
-    ensures { λ r. ⌜ r ≡ num8 (now (b .entry)) i ⌝ }
+    ensures { λ r. ⌜ (r ≡ num8 (now (b .entry)) i) × (r < 256) ⌝ }
 {
+    if b.len() <= i {
+        return 0;
+    }
     wide(b[i])
-}
-
-// The number in two bytes.
-fn pair(high: u8, low: u8) -> u32
-    ensures { λ r. ⌜ (r ≡ high * 256 + low) × (r < 65536) ⌝ }
-{
-    wide(high) * 256 + wide(low)
 }
 
 // The number in the two bytes from i on.
 fn get16(b: &[u8], i: usize) -> u32
-    requires { ⌜ i + 1 < length (now b) ⌝ }
     ensures { λ r. ⌜ (r ≡ num16 (now (b .entry)) i) × (r < 65536) ⌝ }
 {
-    pair(b[i], b[i + 1])
+    if b.len() <= i {
+        return 0;
+    }
+    let high = get8(b, i);
+    let low = get8(b, i + 1);
+    high * 256 + low
 }
 
 // The number in the four bytes from i on.
-fn get32(b: &[u8], i: usize) -> u32
-    requires { ⌜ i + 3 < length (now b) ⌝ }
+pub fn word(b: &[u8], i: usize) -> u32
     ensures { λ r. ⌜ r ≡ num32 (now (b .entry)) i ⌝ }
 {
-    get16(b, i) * 65536 + get16(b, i + 2)
+    if b.len() <= i {
+        return 0;
+    }
+    let high = get16(b, i);
+    let low = get16(b, i + 2);
+    high * 65536 + low
 }
+
+// ---- bodies
 
 // A change to a cost; cost 0 removes.
 fn change_to(sender: u32, receiver: u32, cost: u32) -> ArcChange
@@ -65,7 +72,6 @@ fn change_to(sender: u32, receiver: u32, cost: u32) -> ArcChange
 
 // The body of kind 1: n, origin.
 fn header_body(b: &[u8]) -> Event
-    requires { ⌜ length (now b) ≡ 2 ⌝ }
     ensures { λ r. ⌜ r ≡ Header (num8 (now (b .entry)) 0) (num8 (now (b .entry)) 1) ⌝ }
 {
     Event::Header {
@@ -76,7 +82,6 @@ fn header_body(b: &[u8]) -> Event
 
 // The body of kind 2: sender, receiver, cost.
 fn arc_body(b: &[u8]) -> Event
-    requires { ⌜ length (now b) ≡ 4 ⌝ }
     ensures { λ r. ⌜ r ≡ Change (arcChange (num8 (now (b .entry)) 0) (num8 (now (b .entry)) 1) (num16 (now (b .entry)) 2)) ⌝ }
 {
     let change = change_to(get8(b, 0), get8(b, 1), get16(b, 2));
@@ -85,33 +90,30 @@ fn arc_body(b: &[u8]) -> Event
 
 // The body of kind 3: node, label, predecessor, list.
 fn row_body(b: &[u8]) -> Event
-    requires { ⌜ length (now b) ≡ 10 ⌝ }
     ensures { λ r. ⌜ r ≡ Row (num8 (now (b .entry)) 0) (num32 (now (b .entry)) 1) (num8 (now (b .entry)) 5) (num32 (now (b .entry)) 6) ⌝ }
 {
     Event::Row {
         node: get8(b, 0),
-        label: get32(b, 1),
+        label: word(b, 1),
         predecessor: get8(b, 5),
-        list: get32(b, 6),
+        list: word(b, 6),
     }
 }
 
 // The body of kind 4: sender, receiver, label, list.
 fn report_body(b: &[u8]) -> Event
-    requires { ⌜ length (now b) ≡ 10 ⌝ }
     ensures { λ r. ⌜ r ≡ Report (num8 (now (b .entry)) 0) (num8 (now (b .entry)) 1) (num32 (now (b .entry)) 2) (num32 (now (b .entry)) 6) ⌝ }
 {
     Event::Report {
         sender: get8(b, 0),
         receiver: get8(b, 1),
-        label: get32(b, 2),
-        list: get32(b, 6),
+        label: word(b, 2),
+        list: word(b, 6),
     }
 }
 
 // The body of kind 7: sender, receiver, grade. A grade above 15 is refused at the record's place.
 fn grade_body(b: &[u8], at: usize) -> Event
-    requires { ⌜ length (now b) ≡ 3 ⌝ }
     ensures { λ r. ⌜ r ≡ gradeChange at (num8 (now (b .entry)) 0) (num8 (now (b .entry)) 1) (num8 (now (b .entry)) 2) ⌝ }
 {
     let grade = get8(b, 2);
@@ -121,9 +123,24 @@ fn grade_body(b: &[u8], at: usize) -> Event
             place: at,
         };
     }
-    let change = change_to(get8(b, 0), get8(b, 1), network::grade_cost(grade));
+    let change = change_to(get8(b, 0), get8(b, 1), rule::grade_cost(grade));
     Event::Change(change)
 }
+
+// ---- records; a short body is refused as 1, and a whole one is handed on as the part that follows the kind byte
+
+// The body bytes of each kind that has a body.
+const HEADER_BYTES: usize = 2;
+
+const ARC_BYTES: usize = 4;
+
+const ROW_BYTES: usize = 10;
+
+const REPORT_BYTES: usize = 10;
+
+const ROUND_BYTES: usize = 128;
+
+const GRADE_BYTES: usize = 3;
 
 // A record refused before its body is read.
 fn refused(number: u8, at: usize) -> Record
@@ -131,11 +148,103 @@ fn refused(number: u8, at: usize) -> Record
 {
     Record {
         event: Event::Refusal { number, place: at },
-        length: 0,
+        used: 0,
     }
 }
 
-// The first record: kind 1. A missing kind byte is refused as 1, then another kind as 2, then a short body as 1.
+// A record of kind 1.
+fn header_record(input: &[u8], at: usize) -> Record
+    requires { ⌜ at < length (now input) ⌝ }
+    ensures { λ r. ⌜ r ≡ bodied at 1 (drop (at + 1) (now (input .entry))) ⌝ }
+{
+    let start = at + 1;
+    if input.len() - start < HEADER_BYTES {
+        return refused(1, at);
+    }
+    Record {
+        event: header_body(&input[start..start + HEADER_BYTES]),
+        used: 1 + HEADER_BYTES,
+    }
+}
+
+// A record of kind 2.
+fn arc_record(input: &[u8], at: usize) -> Record
+    requires { ⌜ at < length (now input) ⌝ }
+    ensures { λ r. ⌜ r ≡ bodied at 2 (drop (at + 1) (now (input .entry))) ⌝ }
+{
+    let start = at + 1;
+    if input.len() - start < ARC_BYTES {
+        return refused(1, at);
+    }
+    Record {
+        event: arc_body(&input[start..start + ARC_BYTES]),
+        used: 1 + ARC_BYTES,
+    }
+}
+
+// A record of kind 3.
+fn row_record(input: &[u8], at: usize) -> Record
+    requires { ⌜ at < length (now input) ⌝ }
+    ensures { λ r. ⌜ r ≡ bodied at 3 (drop (at + 1) (now (input .entry))) ⌝ }
+{
+    let start = at + 1;
+    if input.len() - start < ROW_BYTES {
+        return refused(1, at);
+    }
+    Record {
+        event: row_body(&input[start..start + ROW_BYTES]),
+        used: 1 + ROW_BYTES,
+    }
+}
+
+// A record of kind 4.
+fn report_record(input: &[u8], at: usize) -> Record
+    requires { ⌜ at < length (now input) ⌝ }
+    ensures { λ r. ⌜ r ≡ bodied at 4 (drop (at + 1) (now (input .entry))) ⌝ }
+{
+    let start = at + 1;
+    if input.len() - start < REPORT_BYTES {
+        return refused(1, at);
+    }
+    Record {
+        event: report_body(&input[start..start + REPORT_BYTES]),
+        used: 1 + REPORT_BYTES,
+    }
+}
+
+// A record of kind 5.
+fn round_record(input: &[u8], at: usize) -> Record
+    requires { ⌜ at < length (now input) ⌝ }
+    ensures { λ r. ⌜ r ≡ bodied at 5 (drop (at + 1) (now (input .entry))) ⌝ }
+{
+    let start = at + 1;
+    if input.len() - start < ROUND_BYTES {
+        return refused(1, at);
+    }
+    Record {
+        event: Event::Round,
+        used: 1 + ROUND_BYTES,
+    }
+}
+
+// A record of kind 7.
+fn grade_record(input: &[u8], at: usize) -> Record
+    requires { ⌜ at < length (now input) ⌝ }
+    ensures { λ r. ⌜ r ≡ bodied at 7 (drop (at + 1) (now (input .entry))) ⌝ }
+{
+    let start = at + 1;
+    if input.len() - start < GRADE_BYTES {
+        return refused(1, at);
+    }
+    Record {
+        event: grade_body(&input[start..start + GRADE_BYTES], at),
+        used: 1 + GRADE_BYTES,
+    }
+}
+
+// ---- sections: a missing kind byte is refused as 1, then a kind that is not allowed as 2
+
+// The first record: kind 1.
 pub fn start_record(input: &[u8]) -> Record
     ensures { λ r. ⌜ r ≡ recordOf atStart 0 (now (input .entry)) ⌝ }
 {
@@ -143,30 +252,14 @@ pub fn start_record(input: &[u8]) -> Record
         return refused(1, 0);
     }
     let kind = input[0];
-    let left = input.len() - 1;
     match kind {
-        0 => refused(2, 0),
-        1 => {
-            if left < 2 {
-                return refused(1, 0);
-            }
-            Record {
-                event: header_body(&input[1..3]),
-                length: 3,
-            }
-        }
-        2 => refused(2, 0),
-        3 => refused(2, 0),
-        4 => refused(2, 0),
-        5 => refused(2, 0),
-        6 => refused(2, 0),
-        7 => refused(2, 0),
+        1 => header_record(input, 0),
+        0 | 2 | 3 | 4 | 5 | 6 | 7 => refused(2, 0),
         _ => refused(2, 0),
     }
 }
 
-// The record at the place `at` inside an image: kinds 0 and 2 to 4. A missing kind byte is refused as 1, then another kind as 2, then a
-// short body as 1.
+// The record at the place `at` inside an image: kinds 0 and 2 to 4.
 pub fn image_record(input: &[u8], at: usize) -> Record
     ensures { λ r. ⌜ r ≡ recordOf inImage at (drop at (now (input .entry))) ⌝ }
 {
@@ -174,50 +267,20 @@ pub fn image_record(input: &[u8], at: usize) -> Record
         return refused(1, at);
     }
     let kind = input[at];
-    let start = at + 1;
-    let left = input.len() - start;
     match kind {
         0 => Record {
             event: Event::End,
-            length: 1,
+            used: 1,
         },
-        1 => refused(2, at),
-        2 => {
-            if left < 4 {
-                return refused(1, at);
-            }
-            Record {
-                event: arc_body(&input[start..start + 4]),
-                length: 5,
-            }
-        }
-        3 => {
-            if left < 10 {
-                return refused(1, at);
-            }
-            Record {
-                event: row_body(&input[start..start + 10]),
-                length: 11,
-            }
-        }
-        4 => {
-            if left < 10 {
-                return refused(1, at);
-            }
-            Record {
-                event: report_body(&input[start..start + 10]),
-                length: 11,
-            }
-        }
-        5 => refused(2, at),
-        6 => refused(2, at),
-        7 => refused(2, at),
+        2 => arc_record(input, at),
+        3 => row_record(input, at),
+        4 => report_record(input, at),
+        1 | 5 | 6 | 7 => refused(2, at),
         _ => refused(2, at),
     }
 }
 
-// The record at the place `at` after an image: kinds 2 and 5 to 7. A missing kind byte is refused as 1, then another kind as 2, then a short
-// body as 1.
+// The record at the place `at` after an image: kinds 2 and 5 to 7.
 pub fn event_record(input: &[u8], at: usize) -> Record
     ensures { λ r. ⌜ r ≡ recordOf asEvent at (drop at (now (input .entry))) ⌝ }
 {
@@ -225,44 +288,15 @@ pub fn event_record(input: &[u8], at: usize) -> Record
         return refused(1, at);
     }
     let kind = input[at];
-    let start = at + 1;
-    let left = input.len() - start;
     match kind {
-        0 => refused(2, at),
-        1 => refused(2, at),
-        2 => {
-            if left < 4 {
-                return refused(1, at);
-            }
-            Record {
-                event: arc_body(&input[start..start + 4]),
-                length: 5,
-            }
-        }
-        3 => refused(2, at),
-        4 => refused(2, at),
-        5 => {
-            if left < 128 {
-                return refused(1, at);
-            }
-            Record {
-                event: Event::Round,
-                length: 129,
-            }
-        }
+        2 => arc_record(input, at),
+        5 => round_record(input, at),
         6 => Record {
             event: Event::FullRound,
-            length: 1,
+            used: 1,
         },
-        7 => {
-            if left < 3 {
-                return refused(1, at);
-            }
-            Record {
-                event: grade_body(&input[start..start + 3], at),
-                length: 4,
-            }
-        }
+        7 => grade_record(input, at),
+        0 | 1 | 3 | 4 => refused(2, at),
         _ => refused(2, at),
     }
 }

@@ -15,13 +15,13 @@ use Rattle.ancestors.proofs.Cases.{eq-or-ne}
 use Rattle.network.specs.Faults.{nodeFault, pairFault}
 use Rattle.network.specs.Network.{Row, none, root, Net, Within, freshNet, freshNumber}
 use Rattle.network.proofs.Accepting.{fresh-free}
-use Rattle.network.proofs.Effects.{net-accepted, fresh-outcome, FreshEffect, fresh-effect}
+use Rattle.network.proofs.Effects.{frame, freshFrame, Stays, nodes-stay, origin-stay, net-accepted, fresh-outcome, FreshEffect, fresh-effect}
 use Rattle.network.proofs.Keeping.{fresh-within}
 use Rattle.network.proofs.Limits.{within-size}
 use Rattle.records.specs.Numbers.{Bytes, be8}
 use Rattle.records.specs.Records.{atStart, inImage, endRecord, headerRecord, refusedRecord, recordOf}
 use Rattle.records.specs.Image.{each, rowBytes, reportBytes, image}
-use Rattle.records.specs.Opening.{Step, stop, finish, onward, placed, Opening, refusedOpening, acceptedOpening, afterStep, readRecords, started, openOf}
+use Rattle.records.specs.Opening.{firstRow, firstReport, rankCount, Step, stop, finish, onward, placed, Opening, refusedOpening, acceptedOpening, afterStep, readRecords, started, headed, openOf}
 use Rattle.records.specs.Acceptance.{IsImage, Acceptance, Reopening}
 use Rattle.records.specs.declared.Event.the-variants.{Header}
 use Rattle.records.specs.declared.Record.{Record}
@@ -35,21 +35,21 @@ use Rattle.records.proofs.SameImage.{same-image}
 -- ---- the bytes of x from the rank k on
 
 abbrev fromRank : Net → ℕ → List ℕ
-fromRank x k = each (rankBytes x) k (2080 - k)
+fromRank x k = each (rankBytes x) k (rankCount - k)
 
 -- ranks without bytes may be passed over
-from-later : (x : Net) (k j : ℕ) → k ≤ j → j ≤ 2080 → ((i : ℕ) → k ≤ i → i < j → rankBytes x i ≡ []) → fromRank x k ≡ fromRank x j
+from-later : (x : Net) (k j : ℕ) → k ≤ j → j ≤ rankCount → ((i : ℕ) → k ≤ i → i < j → rankBytes x i ≡ []) → fromRank x k ≡ fromRank x j
 from-later x k j a b h =
-    let p : (j - k) + (2080 - j) ≡ 2080 - k = omega arith in
+    let p : (j - k) + (rankCount - j) ≡ rankCount - k = omega arith in
     let q : k + (j - k) ≡ j = omega arith in
-    sym (ap (each (rankBytes x) k) p) ∙ each-split (rankBytes x) k (j - k) (2080 - j) ∙
-    ap (λ (l : List ℕ). l ++ each (rankBytes x) (k + (j - k)) (2080 - j)) (each-none (rankBytes x) k (j - k) (λ i c d. h i c (omega arith))) ∙
-    ap (λ (i : ℕ). each (rankBytes x) i (2080 - j)) q
+    sym (ap (each (rankBytes x) k) p) ∙ each-split (rankBytes x) k (j - k) (rankCount - j) ∙
+    ap (λ (l : List ℕ). l ++ each (rankBytes x) (k + (j - k)) (rankCount - j)) (each-none (rankBytes x) k (j - k) (λ i c d. h i c (omega arith))) ∙
+    ap (λ (i : ℕ). each (rankBytes x) i (rankCount - j)) q
 
-from-next : (x : Net) (k : ℕ) → k < 2080 → fromRank x k ≡ rankBytes x k ++ fromRank x (suc k)
+from-next : (x : Net) (k : ℕ) → k < rankCount → fromRank x k ≡ rankBytes x k ++ fromRank x (suc k)
 unfolding each
 from-next x k h =
-    let p : suc (2080 - suc k) ≡ 2080 - k = omega arith in
+    let p : suc (rankCount - suc k) ≡ rankCount - k = omega arith in
     sym (ap (each (rankBytes x) k) p)
 
 -- ---- what is accepted is an image
@@ -60,20 +60,18 @@ record Given (z : Net) (next at : ℕ) (bs : List ℕ) (x : Net) (used : ℕ) : 
   bytes : bs ≡ fromRank x next ++ (0 ∷ rest)
   long : used ≡ at + length (fromRank x next) + 1
   kept : (i : ℕ) → i < next → rankBytes x i ≡ rankBytes z i
-  nodes : x .nodes ≡ z .nodes
-  origin : x .origin ≡ z .origin
+  stays : Stays z x
   within : Within x
 
-given-end : (z : Net) (next at : ℕ) (bs rest : List ℕ) → bs ≡ 0 ∷ rest → next ≤ 2080 → NoneFrom z next → Within z → Given z next at bs z (at + 1)
+given-end : (z : Net) (next at : ℕ) (bs rest : List ℕ) → bs ≡ 0 ∷ rest → next ≤ rankCount → NoneFrom z next → Within z → Given z next at bs z (at + 1)
 given-end z next at bs rest e h none-from w =
-    let n : fromRank z next ≡ [] = each-none (rankBytes z) next (2080 - next) (λ i a b. none-from i a (omega arith)) in
+    let n : fromRank z next ≡ [] = each-none (rankBytes z) next (rankCount - next) (λ i a b. none-from i a (omega arith)) in
     record {
       rest = rest;
       bytes = e ∙ ap (λ (l : List ℕ). l ++ (0 ∷ rest)) (sym n);
       long = omega (arith, ap length n);
       kept = λ i _. refl;
-      nodes = refl;
-      origin = refl;
+      stays = refl;
       within = w;
     }
 
@@ -94,8 +92,7 @@ given-next z next at bs len y n x used r none-from g =
           ap (λ (t : List ℕ). t ++ (0 ∷ g .rest)) (sym q);
       long = omega (arith, g .long, r .long, l);
       kept = λ i a. below i (omega (arith, r .above));
-      nodes = g .nodes ∙ p .nodes;
-      origin = g .origin ∙ p .origin;
+      stays = g .stays ∙ p .stays;
       within = g .within;
     }
 
@@ -103,7 +100,7 @@ given-next z next at bs len y n x used r none-from g =
 opening-number : (e at : ℕ) (x : Net) (used : ℕ) → refusedOpening e at ≡ acceptedOpening x used → e ≡ 0
 opening-number e at x used q = ap (λ (o : Opening). o .number) q
 
-given : (f : ℕ) (z : Net) (next at : ℕ) (bs : List ℕ) (x : Net) (used : ℕ) → Bytes bs → next ≤ 2080 → NoneFrom z next → Within z →
+given : (f : ℕ) (z : Net) (next at : ℕ) (bs : List ℕ) (x : Net) (used : ℕ) → Bytes bs → next ≤ rankCount → NoneFrom z next → Within z →
     readRecords f z next at bs ≡ acceptedOpening x used → Given z next at bs x used
 unfolding readRecords
 given zero z next at bs x used by h none-from w q = absurd (omega (arith, opening-number 1 at x used q))
@@ -112,10 +109,10 @@ given (suc f) z next at bs x used by h none-from w q = go (given f) (placed z ne
     rec : Record
     rec = recordOf inImage at bs
 
-    go : ((z : Net) (next at : ℕ) (bs : List ℕ) (x : Net) (used : ℕ) → Bytes bs → next ≤ 2080 → NoneFrom z next → Within z →
+    go : ((z : Net) (next at : ℕ) (bs : List ℕ) (x : Net) (used : ℕ) → Bytes bs → next ≤ rankCount → NoneFrom z next → Within z →
         readRecords f z next at bs ≡ acceptedOpening x used → Given z next at bs x used) →
         (s : Step) → placed z next (rec .event) ≡ s →
-        afterStep (λ y n. readRecords f y n (at + rec .length) (drop (rec .length) bs)) z at s ≡ acceptedOpening x used → Given z next at bs x used
+        afterStep (λ y n. readRecords f y n (at + rec .used) (drop (rec .used) bs)) z at s ≡ acceptedOpening x used → Given z next at bs x used
     go again (stop e) p q = absurd (stop-at z next at bs e p (opening-number e at x used q))
     go again finish p q =
         let e = end-at z next at bs p in
@@ -123,10 +120,10 @@ given (suc f) z next at bs x used by h none-from w q = go (given f) (placed z ne
         let u : at + 1 ≡ used = ap (λ (o : Opening). o .used) q in
         rw (← n, ← u) (given-end z next at bs (e .0) (e .1) h none-from w)
     go again (onward y n) p q =
-        let r = read-at z w next at bs by none-from y n p in
+        let r = read-at z next at bs w by none-from y n p in
         let m = r .moved in
-        given-next z next at bs (rec .length) y n x used r none-from
-        (again y n (at + rec .length) (drop (rec .length) bs) x used (bytes-drop bs (rec .length) by) (omega (arith, r .below))
+        given-next z next at bs (rec .used) y n x used r none-from
+        (again y n (at + rec .used) (drop (rec .used) bs) x used (bytes-drop bs (rec .used) by) (omega (arith, r .below))
         (λ i a b. r .placed-at .others i (λ e. omega arith) ∙ none-from i (omega (arith, r .above)) b) (r .placed-at .within) q)
 
 -- ---- an image is accepted
@@ -135,8 +132,7 @@ given (suc f) z next at bs x used by h none-from w q = go (given f) (placed z ne
 prefix-next : (x z y : Net) (k : ℕ) (w : List ℕ) → Prefix x z k → PlacedAt z y k w → rankBytes x k ≡ w → Prefix x y (suc k)
 prefix-next x z y k w pre p e =
     record {
-      nodes = p .nodes ∙ pre .nodes;
-      origin = p .origin ∙ pre .origin;
+      stays = p .stays ∙ pre .stays;
       within = p .within;
       agree = λ i a. agree i a (eq-or-ne i k);
       none-from = λ i a b. p .others i (λ q. omega arith) ∙ pre .none-from i (omega arith) b;
@@ -146,11 +142,10 @@ prefix-next x z y k w pre p e =
     agree i a (inl q) = ap (rankBytes y) q ∙ p .here ∙ sym (ap (rankBytes x) q ∙ e)
     agree i a (inr q) = p .others i q ∙ pre .agree i (omega (arith, q))
 
-prefix-skip : (x z : Net) (k : ℕ) → k < 2080 → Prefix x z k → rankBytes x k ≡ [] → Prefix x z (suc k)
+prefix-skip : (x z : Net) (k : ℕ) → k < rankCount → Prefix x z k → rankBytes x k ≡ [] → Prefix x z (suc k)
 prefix-skip x z k h pre e =
     record {
-      nodes = pre .nodes;
-      origin = pre .origin;
+      stays = pre .stays;
       within = pre .within;
       agree = λ i a. agree i a (eq-or-ne i k);
       none-from = λ i a b. pre .none-from i (omega arith) b;
@@ -169,8 +164,8 @@ some-long [] n = absurd (n refl)
 some-long (k ∷ b) n = omega arith
 
 -- all records of x are there
-prefix-whole : (x z : Net) → Within x → Prefix x z 2080 → z ≡ x
-prefix-whole x z w pre = same-image z x (pre .within) w (pre .nodes) (pre .origin) (pre .agree)
+prefix-whole : (x z : Net) → Within x → Prefix x z rankCount → z ≡ x
+prefix-whole x z w pre = same-image z x (pre .within) w (pre .stays) (pre .agree)
 
 module _ (x : Net) (wx : Within x) (rest : List ℕ) where
   -- one record, then the others
@@ -183,28 +178,28 @@ module _ (x : Net) (wx : Within x) (rest : List ℕ) where
       let w = rankBytes x j in
       let e = each (rankBytes x) (suc j) d in
       let bs = w ++ (e ++ (0 ∷ rest)) in
-      let len = recordOf inImage at bs .length in
+      let len = recordOf inImage at bs .used in
       let n : at + length w + length e + 1 ≡ at + length (w ++ e) + 1 = omega (arith, length-append w e) in
       ap (readRecords (suc f) z next at) (append-assoc w e (0 ∷ rest)) ∙
       ap (afterStep (λ y above. readRecords f y above (at + len) (drop len bs)) z at) (t .onwards) ∙
       ap (λ (i : ℕ). readRecords f (t .net) (suc j) (at + i) (drop i bs)) (t .long) ∙
       ap (readRecords f (t .net) (suc j) (at + length w)) (drop-append-seam w (e ++ (0 ∷ rest))) ∙ again (t .net) (t .placed-at) ∙ ap (acceptedOpening x) n
 
-  taken-all : (d j f : ℕ) (z : Net) (next at : ℕ) → j + d ≡ 2080 → next ≤ j → length (each (rankBytes x) j d) < f → Prefix x z j →
+  taken-all : (d j f : ℕ) (z : Net) (next at : ℕ) → j + d ≡ rankCount → next ≤ j → length (each (rankBytes x) j d) < f → Prefix x z j →
       readRecords f z next at (each (rankBytes x) j d ++ (0 ∷ rest)) ≡ acceptedOpening x (at + length (each (rankBytes x) j d) + 1)
   unfolding readRecords each placed
   taken-all zero j zero z next at e h fuel pre = absurd (omega arith)
   taken-all zero j (suc f) z next at e h fuel pre =
-      let j-is : j ≡ 2080 = omega arith in
+      let j-is : j ≡ rankCount = omega arith in
       let n : z ≡ x = prefix-whole x z wx (subst (Prefix x z) j-is pre) in
       let u : at + 1 ≡ at + 0 + 1 = omega arith in
-      ap (λ (r : Record). afterStep (λ y above. readRecords f y above (at + r .length) (drop (r .length) (0 ∷ rest))) z at (placed z next (r .event))) (end-parse at rest) ∙
+      ap (λ (r : Record). afterStep (λ y above. readRecords f y above (at + r .used) (drop (r .used) (0 ∷ rest))) z at (placed z next (r .event))) (end-parse at rest) ∙
       ap (λ (i : Net). acceptedOpening i (at + 1)) n ∙ ap (acceptedOpening x) u
   taken-all (suc d) j zero z next at e h fuel pre = absurd (omega arith)
   taken-all (suc d) j (suc f) z next at e h fuel pre = go (none-or-some (rankBytes x j)) (taken-all d (suc j)) (length-append (rankBytes x j) (each (rankBytes x) (suc j) d))
     where
       go : (rankBytes x j ≡ []) ⊎ (rankBytes x j ≢ []) →
-          ((f : ℕ) (z : Net) (next at : ℕ) → suc j + d ≡ 2080 → next ≤ suc j → length (each (rankBytes x) (suc j) d) < f → Prefix x z (suc j) →
+          ((f : ℕ) (z : Net) (next at : ℕ) → suc j + d ≡ rankCount → next ≤ suc j → length (each (rankBytes x) (suc j) d) < f → Prefix x z (suc j) →
           readRecords f z next at (each (rankBytes x) (suc j) d ++ (0 ∷ rest)) ≡ acceptedOpening x (at + length (each (rankBytes x) (suc j) d) + 1)) →
           length (rankBytes x j ++ each (rankBytes x) (suc j) d) ≡ length (rankBytes x j) + length (each (rankBytes x) (suc j) d) →
           readRecords (suc f) z next at (each (rankBytes x) j (suc d) ++ (0 ∷ rest)) ≡ acceptedOpening x (at + length (each (rankBytes x) j (suc d)) + 1)
@@ -230,9 +225,9 @@ no-bytes y v l (inr e) = ap (rowBytes y) e
 fresh-none : (n o i : ℕ) → rankBytes (freshNet n o) i ≡ []
 unfolding rankBytes ofPair ofNode reportBytes
 fresh-none n o i =
-    all (ltb i 1024) (pair-none (i / 32) (i % 32) (arc-none (i / 32) (i % 32) _ (f .cost (i / 32) (i % 32))))
-    (all (ltb i 1056) (node-none (i - 1024) (row-none (i - 1024) (eq-or-ne (i - 1024) o)))
-    (pair-none ((i - 1056) / 32) ((i - 1056) % 32) (ap (reportBytes ((i - 1056) / 32) ((i - 1056) % 32)) (f .held ((i - 1056) / 32) ((i - 1056) % 32)))))
+    all (ltb i firstRow) (pair-none (i / 32) (i % 32) (arc-none (i / 32) (i % 32) _ (f .cost (i / 32) (i % 32))))
+    (all (ltb i firstReport) (node-none (i - firstRow) (row-none (i - firstRow) (eq-or-ne (i - firstRow) o)))
+    (pair-none ((i - firstReport) / 32) ((i - firstReport) % 32) (ap (reportBytes ((i - firstReport) / 32) ((i - firstReport) % 32)) (f .held ((i - firstReport) / 32) ((i - firstReport) % 32)))))
   where
     f : FreshEffect n o (freshNet n o)
     f = fresh-effect n o
@@ -270,13 +265,13 @@ image-long x w =
     omega arith
 
 -- what the first record leads to
-pub started-header : (bs : List ℕ) (n o : ℕ) → recordOf atStart 0 bs ≡ record { event = Header n o; length = 3 } →
+pub started-header : (bs : List ℕ) (n o : ℕ) → recordOf atStart 0 bs ≡ record { event = Header n o; used = 3 } →
     openOf bs ≡ cond (eqb (freshNumber n o) 0) (readRecords (length bs) (freshNet n o) 0 3 (drop 3 bs)) (refusedOpening (freshNumber n o) 0)
-unfolding openOf started
+unfolding openOf started headed
 started-header bs n o e = ap (λ (r : Record). started bs r (r .event)) e
 
 pub started-stop : (bs : List ℕ) (e : ℕ) → recordOf atStart 0 bs ≡ refusedRecord e 0 → openOf bs ≡ refusedOpening e 0
-unfolding openOf started
+unfolding openOf started headed
 started-stop bs e p = ap (λ (r : Record). started bs r (r .event)) p
 
 -- accepted, it is an image
@@ -287,8 +282,9 @@ only-images bs by x used q = go (start-shown bs)
     read n o b p ok r =
         let f = fresh-effect n o in
         let g = given (length bs) (freshNet n o) 0 3 (drop 3 bs) x used (bytes-drop bs 3 by) (omega arith) (λ i _ _. fresh-none n o i) (fresh-net n o ok) r in
-        let en : n ≡ x .nodes = sym (g .nodes ∙ f .nodes) in
-        let eo : o ≡ x .origin = sym (g .origin ∙ f .origin-is) in
+        let e : frame x ≡ freshFrame n o = g .stays ∙ f .framed in
+        let en : n ≡ x .nodes = sym (nodes-stay e) in
+        let eo : o ≡ x .origin = sym (origin-stay e) in
         let tail : b ≡ fromRank x 0 ++ (0 ∷ g .rest) = sym (ap (drop 3) p) ∙ g .bytes in
         let whole : bs ≡ image x ++ g .rest =
         p ∙ ap (λ (i : ℕ). 1 ∷ i ∷ o ∷ b) en ∙ ap (λ (i : ℕ). 1 ∷ x .nodes ∷ i ∷ b) eo ∙ ap (λ (l : List ℕ). 1 ∷ x .nodes ∷ x .origin ∷ l) tail ∙
@@ -322,10 +318,9 @@ reopening x w rest =
     let l = length-append (fromRank x 0) (0 ∷ rest) in
     ap openOf (sym (image-front x w rest)) ∙ started-header (1 ∷ n ∷ o ∷ b) n o (header-parse n o b) ∙
     rw (eq-eqb (freshNumber n o) 0 ok)
-    (taken-all x w rest 2080 0 (length (1 ∷ n ∷ o ∷ b)) (freshNet n o) 0 3 refl (omega arith) (omega arith)
+    (taken-all x w rest rankCount 0 (length (1 ∷ n ∷ o ∷ b)) (freshNet n o) 0 3 refl (omega arith) (omega arith)
     (record {
-      nodes = f .nodes;
-      origin = f .origin-is;
+      stays = f .framed;
       within = fresh-net n o ok;
       agree = λ i a. absurd (omega arith);
       none-from = λ i _ _. fresh-none n o i;

@@ -3,6 +3,7 @@
 use mathlib.Core.Path.{_≡_, refl, sym, ap, _∙_}
 use mathlib.Core.List.{List, [], _++_, append-assoc, append-nil}
 use Prim.Native.Nat.{ℕ, zero, suc, _+_, _*_, _/_, _%_, _<_, _≤_}
+use native.Mathlib.Nat.{zero-add}
 use native.Mathlib.Omega.{arith}
 use lib.ListN.{length, length-append}
 use Rattle.records.specs.Image.{each}
@@ -33,6 +34,14 @@ each-one f k = append-nil (f k)
 -- the last number apart
 pub each-last : (f : ℕ → List ℕ) (k d : ℕ) → each f k (d + 1) ≡ each f k d ++ f (k + d)
 each-last f k d = each-split f k d 1 ∙ ap (λ (l : List ℕ). each f k d ++ l) (each-one f (k + d))
+
+-- of no numbers, and of one number more
+pub each-zero : (f : ℕ → List ℕ) (k : ℕ) → each f k 0 ≡ []
+unfolding each
+each-zero f k = refl
+
+pub each-next : (f : ℕ → List ℕ) (i : ℕ) → each f 0 (i + 1) ≡ each f 0 i ++ f i
+each-next f i = each-last f 0 i ∙ ap (λ (k : ℕ). each f 0 i ++ f k) (zero-add i)
 
 -- where there are no bytes there is nothing
 pub each-none : (f : ℕ → List ℕ) (k d : ℕ) → ((i : ℕ) → k ≤ i → i < k + d → f i ≡ []) → each f k d ≡ []

@@ -7,7 +7,7 @@ use Prim.Native.Nat.{ℕ, zero, suc, _+_, _<_, _≤_}
 use native.Mathlib.Omega.{arith}
 use lib.ListN.{length, drop, length-drop}
 use borrow.Author.Tests.{eq-eqb, ne-eqb}
-use Rattle.ancestors.proofs.Cases.{eq-or-ne}
+use Rattle.ancestors.proofs.Cases.{eq-or-ne, clash}
 use Rattle.network.specs.Network.{Net, Outcome}
 use Rattle.network.proofs.Effects.{outcome-number}
 use Rattle.records.specs.Records.{inImage, asEvent, bodyOf, recordOf}
@@ -25,8 +25,7 @@ pub onward-read : (x : Net) (next : ℕ) (e : Event) (z : Net) (k : ℕ) → onw
 unfolding placed
 onward-read x next e z k q i p h =
     let w : onward z k ≡ stop i = q ∙ ap (placed x next) h in
-    let v : _≡_ {A = ℕ} 0 1 = cc in
-    omega arith
+    clash cc
 
 -- with more than there are bytes
 pub records-enough : (k j : ℕ) (x : Net) (next at : ℕ) (bs : List ℕ) → length bs < k → readRecords (k + j) x next at bs ≡ readRecords k x next at bs
@@ -41,13 +40,13 @@ records-enough (suc k) j x next at bs h =
 
     go : (s : Step) → placed x next (r .event) ≡ s →
         ((x : Net) (next at : ℕ) (bs : List ℕ) → length bs < k → readRecords (k + j) x next at bs ≡ readRecords k x next at bs) →
-        afterStep (λ z above. readRecords (k + j) z above (at + r .length) (drop (r .length) bs)) x at s ≡
-        afterStep (λ z above. readRecords k z above (at + r .length) (drop (r .length) bs)) x at s
+        afterStep (λ z above. readRecords (k + j) z above (at + r .used) (drop (r .used) bs)) x at s ≡
+        afterStep (λ z above. readRecords k z above (at + r .used) (drop (r .used) bs)) x at s
     go (stop e) p again = refl
     go finish p again = refl
     go (onward z above) p again =
         let some = length-some inImage at bs (onward-read x next (r .event) z above (sym p)) in
-        again z above (at + r .length) (drop (r .length) bs) (omega (arith, some, length-within inImage at bs, length-drop (r .length) bs))
+        again z above (at + r .used) (drop (r .used) bs) (omega (arith, some, length-within inImage at bs, length-drop (r .used) bs))
 
 -- ---- the events of a run
 
@@ -57,9 +56,9 @@ unfolding eventDone
 refusal-number x b e p = outcome-number e x x
 
 -- an accepted event has at least its kind byte
-pub accepted-long : (x : Net) (d : List ℕ) (at : ℕ) (s : List ℕ) → eventDone x d (recordOf asEvent at s .event) .number ≡ 0 → 0 < recordOf asEvent at s .length
+pub accepted-long : (x : Net) (d : List ℕ) (at : ℕ) (s : List ℕ) → eventDone x d (recordOf asEvent at s .event) .number ≡ 0 → 0 < recordOf asEvent at s .used
 accepted-long x d at s =
-    by-outcome (λ (r : Record). eventDone x d (r .event) .number ≡ 0 → 0 < r .length) asEvent at s
+    by-outcome (λ (r : Record). eventDone x d (r .event) .number ≡ 0 → 0 < r .used) asEvent at s
     (λ q. omega (arith, refusal-number x d 1 at, q)) (λ q. omega (arith, refusal-number x d 2 at, q)) (λ k b e a h q. omega arith)
 
 -- no bytes, no event
@@ -86,11 +85,11 @@ events-enough (suc k) j x n at (kind ∷ b) h =
 
     go : (o .number ≡ 0) ⊎ (o .number ≢ 0) →
         ((x : Net) (n at : ℕ) (bs : List ℕ) → length bs ≤ k → readEvents (k + j) x n at bs ≡ readEvents k x n at bs) →
-        afterEvent (λ z. readEvents (k + j) z (n + roundsIn (r .event)) (at + r .length) (drop (r .length) (kind ∷ b))) at n o ≡
-        afterEvent (λ z. readEvents k z (n + roundsIn (r .event)) (at + r .length) (drop (r .length) (kind ∷ b))) at n o
+        afterEvent (λ z. readEvents (k + j) z (n + roundsIn (r .event)) (at + r .used) (drop (r .used) (kind ∷ b))) at n o ≡
+        afterEvent (λ z. readEvents k z (n + roundsIn (r .event)) (at + r .used) (drop (r .used) (kind ∷ b))) at n o
     go (inl z) again =
         let some = accepted-long x (bodyOf kind b) at (kind ∷ b) z in
         rw (eq-eqb (o .number) 0 z)
-        (again (o .net) (n + roundsIn (r .event)) (at + r .length) (drop (r .length) (kind ∷ b))
-        (omega (arith, some, length-within asEvent at (kind ∷ b), length-drop (r .length) (kind ∷ b))))
+        (again (o .net) (n + roundsIn (r .event)) (at + r .used) (drop (r .used) (kind ∷ b))
+        (omega (arith, some, length-within asEvent at (kind ∷ b), length-drop (r .used) (kind ∷ b))))
     go (inr z) again = rw (ne-eqb (o .number) 0 z)

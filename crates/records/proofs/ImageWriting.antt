@@ -12,12 +12,12 @@ use Rattle.records.specs.Image.{image, imageNumber, imageOf}
 
 module _ (x : Net) (out : List ℕ) where
   -- refused
-  pub image-short : length out < length (image x) → imageOf x out ≡ record { number = 6; length = 0; output = out }
+  pub image-short : length out < length (image x) → imageOf x out ≡ record { number = 6; used = 0; output = out }
   unfolding imageOf imageNumber
   image-short h = rw (lt-ltb (length out) (length (image x)) h) (writing-refused 6 (image x) out (λ z. omega arith))
 
   -- accepted
   pub image-fits : length (image x) ≤ length out
-      → imageOf x out ≡ record { number = 0; length = length (image x); output = image x ++ drop (length (image x)) out }
+      → imageOf x out ≡ record { number = 0; used = length (image x); output = image x ++ drop (length (image x)) out }
   unfolding imageOf imageNumber
   image-fits h = rw (le-ltb (length out) (length (image x)) h) (writing-accepted (image x) out)

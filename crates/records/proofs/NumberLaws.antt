@@ -45,8 +45,3 @@ num32-of x h =
     let p = num16-of (x / 65536) (omega arith) in
     let q : x / 256 % 256 * 256 + x % 256 ≡ x % 65536 = omega arith in
     omega arith
-
--- ---- a number of two bytes is small
-
-pub num16-small : (a b : ℕ) → a < 256 → b < 256 → a * 256 + b < 65536
-num16-small a b ha hb = omega arith

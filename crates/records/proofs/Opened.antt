@@ -9,13 +9,13 @@ use native.Mathlib.Omega.{arith}
 use lib.Dec.{eqb}
 use lib.ListN.{length, drop, length-drop}
 use borrow.Author.Tests.{eq-eqb, ne-eqb}
-use Rattle.ancestors.proofs.Cases.{eq-or-ne}
+use Rattle.ancestors.proofs.Cases.{eq-or-ne, clash}
 use Rattle.network.specs.Network.{Net, Within, freshNet, freshNumber}
 use Rattle.network.proofs.Accepting.{fresh-free}
 use Rattle.network.proofs.FaultLaws.{size-free}
 use Rattle.records.specs.Numbers.{Bytes}
 use Rattle.records.specs.Records.{atStart, inImage, recordOf}
-use Rattle.records.specs.Opening.{Step, stop, finish, onward, placed, Opening, refusedOpening, acceptedOpening, afterStep, readRecords, started, openOf}
+use Rattle.records.specs.Opening.{Step, stop, finish, onward, placed, Opening, refusedOpening, acceptedOpening, afterStep, readRecords, started, headed, openOf}
 use Rattle.records.specs.declared.Event.{Event}
 use Rattle.records.specs.declared.Event.the-variants.{End, Header, Change, Row, Report, Round, FullRound, Refusal}
 use Rattle.records.specs.declared.Record.{Record}
@@ -37,10 +37,10 @@ records-is (suc k) x next at bs = go (placed x next (r .event)) refl (records-is
     r = recordOf inImage at bs
 
     go : (s : Step) → placed x next (r .event) ≡ s → ((x : Net) (next at : ℕ) (bs : List ℕ) → OpenIs (readRecords k x next at bs)) →
-        OpenIs (afterStep (λ z above. readRecords k z above (at + r .length) (drop (r .length) bs)) x at s)
+        OpenIs (afterStep (λ z above. readRecords k z above (at + r .used) (drop (r .used) bs)) x at s)
     go (stop e) p again = refused e at (stop-at x next at bs e p) refl
     go finish p again = accepted x (at + 1) refl
-    go (onward z above) p again = again z above (at + r .length) (drop (r .length) bs)
+    go (onward z above) p again = again z above (at + r .used) (drop (r .used) bs)
 
 pub open-is : (bs : List ℕ) → OpenIs (openOf bs)
 open-is bs = go (start-shown bs)
@@ -77,11 +77,8 @@ open-within bs by = go (open-is bs)
 end-inside : (x : Net) (next at : ℕ) (s : List ℕ) → placed x next (recordOf inImage at s .event) ≡ finish → 0 < length s
 unfolding placed
 end-inside x next at s =
-    by-outcome (λ (r : Record). placed x next (r .event) ≡ finish → 0 < length s) inImage at s (λ q. clash q) (λ q. clash q)
+    by-outcome (λ (r : Record). placed x next (r .event) ≡ finish → 0 < length s) inImage at s (λ q. clash cc) (λ q. clash cc)
     (λ k b e a h q. let l = ap length e in omega arith)
-  where
-    clash : {e : ℕ} → stop e ≡ finish → 0 < length s
-    clash q = let z : _≡_ {A = ℕ} 0 1 = cc in absurd (omega arith)
 
 -- after a record, if the records after it end inside the input
 used-after : (at : ℕ) (s : List ℕ) (go : Net → ℕ → Opening) (x : Net) → ((z : Net) (k : ℕ) → go z k .used ≤ at + length s) → (t : Step)
@@ -96,23 +93,23 @@ unfolding readRecords
 used-records zero x next at s = omega arith
 used-records (suc k) x next at s =
     let r = recordOf inImage at s in
-    used-after at s (λ z above. readRecords k z above (at + r .length) (drop (r .length) s)) x
-    (λ z above. omega (arith, used-records k z above (at + r .length) (drop (r .length) s), length-drop (r .length) s, length-within inImage at s))
+    used-after at s (λ z above. readRecords k z above (at + r .used) (drop (r .used) s)) x
+    (λ z above. omega (arith, used-records k z above (at + r .used) (drop (r .used) s), length-drop (r .used) s, length-within inImage at s))
     (placed x next (r .event)) (end-inside x next at s)
 
 -- opening uses no more bytes than there are
 pub open-used : (s : List ℕ) → openOf s .used ≤ length s
-unfolding openOf started
+unfolding openOf started headed
 open-used s = go (recordOf atStart 0 s) (recordOf atStart 0 s .event) (length-within atStart 0 s)
   where
     chosen : (t : Bool) (x y : Opening) → x .used ≤ length s → y .used ≤ length s → cond t x y .used ≤ length s
     chosen true x y f g = f
     chosen false x y f g = g
 
-    go : (r : Record) (e : Event) → r .length ≤ length s → started s r e .used ≤ length s
+    go : (r : Record) (e : Event) → r .used ≤ length s → started s r e .used ≤ length s
     go r (Header n o) h =
         chosen (eqb (freshNumber n o) 0) _ _
-        (omega (arith, used-records (length s) (freshNet n o) 0 (r .length) (drop (r .length) s), length-drop (r .length) s))
+        (omega (arith, used-records (length s) (freshNet n o) 0 (r .used) (drop (r .used) s), length-drop (r .used) s))
         (omega arith)
     go r (Refusal e p) h = omega arith
     go r End h = omega arith

@@ -10,18 +10,18 @@ use lib.Dec.{ltb}
 use lib.ListN.{length}
 use borrow.Author.Tests.{eq-eqb, ne-eqb, ltb-true, ltb-false}
 use Rattle.ancestors.proofs.Cases.{eq-or-ne}
-use Rattle.network.specs.Faults.{nodeFault, pairFault}
+use Rattle.network.specs.Faults.{pairCount, nodeFault, pairFault}
 use Rattle.network.specs.Network.{Row, via, Report, empty, told, Net, Within, withRow, withHeld}
 use Rattle.network.specs.Placing.{placeRowNumber, placeReportNumber}
 use Rattle.network.specs.Change.{changed, changeNumber}
 use Rattle.network.proofs.Accepting.{change-accepted, place-row-accepted, place-report-accepted}
-use Rattle.network.proofs.Effects.{net-accepted, change-outcome, place-row-outcome, place-report-outcome, SamePair, same-pair, change-effect, place-row-effect, place-report-effect}
+use Rattle.network.proofs.Effects.{Stays, nodes-stay, net-accepted, change-outcome, place-row-outcome, place-report-outcome, SamePair, same-pair, change-effect, place-row-effect, place-report-effect}
 use Rattle.network.proofs.FaultLaws.{node-says, pair-says}
 use Rattle.network.proofs.Keeping.{change-within, place-row-within, place-report-within}
 use Rattle.network.proofs.Limits.{within-size, within-report}
 use Rattle.records.specs.Records.{arcRecord, rowRecord, reportRecord}
 use Rattle.records.specs.Image.{arcBytes, rowBytes, reportBytes}
-use Rattle.records.specs.Opening.{arcRank, rowRank, reportRank}
+use Rattle.records.specs.Opening.{firstRow, firstReport, arcRank, rowRank, reportRank}
 use Rattle.records.proofs.Ranks.{ofPair, ofNode, rankBytes, rank-arc, rank-row, rank-report}
 use Rattle.records.proofs.Sizes.{arc-long}
 
@@ -37,7 +37,7 @@ pub rank-pair : (i : ℕ) → arcRank (i / 32) (i % 32) ≡ i
 unfolding arcRank
 rank-pair i = omega arith
 
-pub pair-rank-small : (s r : ℕ) → s < 32 → r < 32 → arcRank s r < 1024
+pub pair-rank-small : (s r : ℕ) → s < 32 → r < 32 → arcRank s r < pairCount
 unfolding arcRank
 pair-rank-small s r a b = omega arith
 
@@ -51,22 +51,22 @@ cond-same : {A : Type 0} (t : Bool) {x y a b : A} → (t ≡ true → x ≡ a) �
 cond-same true f g = f refl
 cond-same false f g = g refl
 
-pub rank-same : (a b : Net) (i : ℕ) → a .nodes ≡ b .nodes → (i < 1024 → a .cost (i / 32) (i % 32) ≡ b .cost (i / 32) (i % 32)) →
-    (1024 ≤ i → i < 1056 → a .row (i - 1024) ≡ b .row (i - 1024)) →
-    (1056 ≤ i → a .held ((i - 1056) / 32) ((i - 1056) % 32) ≡ b .held ((i - 1056) / 32) ((i - 1056) % 32)) → rankBytes a i ≡ rankBytes b i
+pub rank-same : (a b : Net) (i : ℕ) → a .nodes ≡ b .nodes → (i < firstRow → a .cost (i / 32) (i % 32) ≡ b .cost (i / 32) (i % 32)) →
+    (firstRow ≤ i → i < firstReport → a .row (i - firstRow) ≡ b .row (i - firstRow)) →
+    (firstReport ≤ i → a .held ((i - firstReport) / 32) ((i - firstReport) % 32) ≡ b .held ((i - firstReport) / 32) ((i - firstReport) % 32)) → rankBytes a i ≡ rankBytes b i
 unfolding rankBytes ofPair ofNode
 rank-same a b i n c w h =
-    cond-same (ltb i 1024)
+    cond-same (ltb i firstRow)
     (λ t. both (pairFault (a .nodes) (i / 32) (i % 32)) (pairFault (b .nodes) (i / 32) (i % 32)) (ap (λ (m : ℕ). pairFault m (i / 32) (i % 32)) n)
-    (ap (arcBytes (i / 32) (i % 32)) (c (ltb-true i 1024 t))))
-    (λ t. cond-same (ltb i 1056)
-    (λ u. both (nodeFault (a .nodes) (i - 1024)) (nodeFault (b .nodes) (i - 1024)) (ap (λ (m : ℕ). nodeFault m (i - 1024)) n)
-    (ap (rowBytes (i - 1024)) (w (ltb-false i 1024 t) (ltb-true i 1056 u))))
+    (ap (arcBytes (i / 32) (i % 32)) (c (ltb-true i firstRow t))))
+    (λ t. cond-same (ltb i firstReport)
+    (λ u. both (nodeFault (a .nodes) (i - firstRow)) (nodeFault (b .nodes) (i - firstRow)) (ap (λ (m : ℕ). nodeFault m (i - firstRow)) n)
+    (ap (rowBytes (i - firstRow)) (w (ltb-false i firstRow t) (ltb-true i firstReport u))))
     (λ u. both (pairFault (a .nodes) (j / 32) (j % 32)) (pairFault (b .nodes) (j / 32) (j % 32)) (ap (λ (m : ℕ). pairFault m (j / 32) (j % 32)) n)
-    (ap (reportBytes (j / 32) (j % 32)) (h (ltb-false i 1056 u)))))
+    (ap (reportBytes (j / 32) (j % 32)) (h (ltb-false i firstReport u)))))
   where
     j : ℕ
-    j = i - 1056
+    j = i - firstReport
 
     both : (t u : Bool) {x y : List ℕ} → t ≡ u → x ≡ y → cond t [] x ≡ cond u [] y
     both t u {x} {y} e f = ap (λ (q : Bool). cond q [] x) e ∙ ap (cond u []) f
@@ -134,8 +134,7 @@ no-report x w s r e = go (x .held s r) refl
 pub record PlacedAt (x z : Net) (k : ℕ) (w : List ℕ) : Type 0 where
   pub here : rankBytes z k ≡ w
   pub others : (i : ℕ) → i ≢ k → rankBytes z i ≡ rankBytes x i
-  pub nodes : z .nodes ≡ x .nodes
-  pub origin : z .origin ≡ x .origin
+  pub stays : Stays x z
   pub within : Within z
 
 pub arc-placed : (x : Net) → Within x → (s r c : ℕ) → changeNumber x s r c ≡ 0 → c ≢ 0 → rankBytes x (arcRank s r) ≡ [] →
@@ -148,13 +147,12 @@ arc-placed x w s r c e n z =
     let none = no-arc s r (x .cost s r) (sym (arc-here x s r (omega (arith, pair .0)) (omega (arith, pair .1)) ok) ∙ z) (eq-or-ne (x .cost s r) 0) in
     record {
       here =
-          arc-here (changed x s r c) s r (omega (arith, pair .0)) (omega (arith, pair .1)) (rw (f .nodes) ok) ∙ ap (arcBytes s r) (f .cost-here) ∙
+          arc-here (changed x s r c) s r (omega (arith, pair .0)) (omega (arith, pair .1)) (rw (nodes-stay (f .stays)) ok) ∙ ap (arcBytes s r) (f .cost-here) ∙
           arc-some s r c n;
-      others = λ i d. rank-same (changed x s r c) x i (f .nodes) (λ _. f .cost-else (i / 32) (i % 32) (other-pair i s r d))
-          (λ _ _. ap (λ (g : ℕ → Row). g (i - 1024)) (f .row))
-          (λ _. held none ((i - 1056) / 32) ((i - 1056) % 32) (same-pair ((i - 1056) / 32) ((i - 1056) % 32) s r));
-      nodes = f .nodes;
-      origin = f .origin;
+      others = λ i d. rank-same (changed x s r c) x i (nodes-stay (f .stays)) (λ _. f .cost-else (i / 32) (i % 32) (other-pair i s r d))
+          (λ _ _. ap (λ (g : ℕ → Row). g (i - firstRow)) (f .row))
+          (λ _. held none ((i - firstReport) / 32) ((i - firstReport) % 32) (same-pair ((i - firstReport) / 32) ((i - firstReport) % 32) s r));
+      stays = f .stays;
       within = subst Within (net-accepted _ _ _ (change-outcome x s r c) e) (change-within x w s r c);
     }
   where
@@ -172,12 +170,11 @@ row-placed x w y d p l e =
     let ok = place-row-accepted x y d p l e .0 in
     let few = within-size x w .1 in
     record {
-      here = row-here z y (omega (arith, node-says (x .nodes) y ok)) (rw (f .nodes) ok) ∙ ap (rowBytes y) (f .row-here);
-      others = λ i n. rank-same z x i (f .nodes) (λ _. ap (λ (g : ℕ → ℕ → ℕ). g (i / 32) (i % 32)) (f .cost))
-          (λ a b. f .row-else (i - 1024) (λ q. n (omega arith)))
-          (λ _. ap (λ (g : ℕ → ℕ → Report). g ((i - 1056) / 32) ((i - 1056) % 32)) (f .held));
-      nodes = f .nodes;
-      origin = f .origin;
+      here = row-here z y (omega (arith, node-says (x .nodes) y ok)) (rw (nodes-stay (f .stays)) ok) ∙ ap (rowBytes y) (f .row-here);
+      others = λ i n. rank-same z x i (nodes-stay (f .stays)) (λ _. ap (λ (g : ℕ → ℕ → ℕ). g (i / 32) (i % 32)) (f .cost))
+          (λ a b. f .row-else (i - firstRow) (λ q. n (omega arith)))
+          (λ _. ap (λ (g : ℕ → ℕ → Report). g ((i - firstReport) / 32) ((i - firstReport) % 32)) (f .held));
+      stays = f .stays;
       within = subst Within (net-accepted _ _ _ (place-row-outcome x y d p l) e) (place-row-within x w y d p l);
     }
 
@@ -191,11 +188,10 @@ report-placed x w s r d l e =
     let pair = pair-says (x .nodes) s r ok in
     let few = within-size x w .1 in
     record {
-      here = report-here z s r (omega (arith, pair .1)) (rw (f .nodes) ok) ∙ ap (reportBytes s r) (f .held-here);
-      others = λ i n. rank-same z x i (f .nodes) (λ _. ap (λ (g : ℕ → ℕ → ℕ). g (i / 32) (i % 32)) (f .cost))
-          (λ _ _. ap (λ (g : ℕ → Row). g (i - 1024)) (f .row))
-          (λ a. f .held-else ((i - 1056) / 32) ((i - 1056) % 32) (other-pair (i - 1056) s r (λ q. n (omega arith))));
-      nodes = f .nodes;
-      origin = f .origin;
+      here = report-here z s r (omega (arith, pair .1)) (rw (nodes-stay (f .stays)) ok) ∙ ap (reportBytes s r) (f .held-here);
+      others = λ i n. rank-same z x i (nodes-stay (f .stays)) (λ _. ap (λ (g : ℕ → ℕ → ℕ). g (i / 32) (i % 32)) (f .cost))
+          (λ _ _. ap (λ (g : ℕ → Row). g (i - firstRow)) (f .row))
+          (λ a. f .held-else ((i - firstReport) / 32) ((i - firstReport) % 32) (other-pair (i - firstReport) s r (λ q. n (omega arith))));
+      stays = f .stays;
       within = subst Within (net-accepted _ _ _ (place-report-outcome x s r d l) e) (place-report-within x w s r d l);
     }

@@ -1,4 +1,4 @@
--- The numbers and places that opening and runs answer: a number is at most 5 or 7, and a place is within the input.
+-- The numbers and places that opening and runs answer: a number is at most `maxRefusal`, and a place is within the input.
 -- Assumes nothing.
 use mathlib.Core.Path.{_≡_, refl}
 use mathlib.Core.List.{List, [], _∷_}
@@ -8,13 +8,13 @@ use native.Mathlib.Omega.{arith}
 use lib.Dec.{eqb, ltb}
 use lib.ListN.{length, drop, length-drop}
 use Rattle.ancestors.proofs.Cases.{eq-or-ne, cond-by}
-use Rattle.network.specs.Faults.{nodeFault, pairFault}
+use Rattle.network.specs.Faults.{maxRefusal, nodeFault, pairFault, firstOf}
 use Rattle.network.specs.Network.{Net, freshNet, freshNumber}
 use Rattle.network.proofs.Effects.{outcome-number, number-of, change-outcome, round-outcome, full-round-outcome}
 use Rattle.network.proofs.Numbers.{cond-most, fresh-most, change-most, place-row-most, place-report-most, round-most}
-use Rattle.records.specs.Numbers.{words}
+use Rattle.records.specs.Numbers.{wordsIn}
 use Rattle.records.specs.Records.{atStart, inImage, asEvent, bodyOf, recordOf}
-use Rattle.records.specs.Opening.{Step, stop, finish, onward, orderNumber, firstOf, arcNumber, rowNumber, reportNumber, judged, placed, Opening, afterStep, readRecords, started, openOf}
+use Rattle.records.specs.Opening.{Step, stop, finish, onward, orderNumber, arcNumber, rowNumber, reportNumber, judged, placed, Opening, afterStep, readRecords, started, headed, openOf}
 use Rattle.records.specs.Running.{eventDone, roundsIn, Running, afterEvent, readEvents, runOf}
 use Rattle.records.specs.declared.ArcChange.the-variants.{Set, Removed}
 use Rattle.records.specs.declared.Event.{Event}
@@ -26,9 +26,9 @@ use Rattle.records.proofs.Begun.{run-refused, run-opened}
 
 -- ---- a record of an image
 
--- the number of a refusal is at most 5
+-- the number of a refusal
 abbrev StopMost : Step → Type 0
-StopMost (stop e) = e ≤ 5
+StopMost (stop e) = e ≤ maxRefusal
 StopMost finish = Unit {0}
 StopMost (onward z k) = Unit {0}
 
@@ -37,11 +37,11 @@ first-most : (m a b : ℕ) → a ≤ m → b ≤ m → firstOf a b ≤ m
 unfolding firstOf
 first-most m a b f g = cond-most m (eqb a 0) b a g f
 
-order-most : (next k : ℕ) → orderNumber next k ≤ 5
+order-most : (next k : ℕ) → orderNumber next k ≤ maxRefusal
 unfolding orderNumber
-order-most next k = cond-most 5 (ltb k next) 4 0 (omega arith) (omega arith)
+order-most next k = cond-most maxRefusal (ltb k next) 4 0 (omega arith) (omega arith)
 
-judged-most : (e : ℕ) (z : Net) (k : ℕ) → e ≤ 5 → StopMost (judged e z k)
+judged-most : (e : ℕ) (z : Net) (k : ℕ) → e ≤ maxRefusal → StopMost (judged e z k)
 unfolding judged
 judged-most e z k h = cond-by StopMost (eqb e 0) _ _ (λ _. tt) (λ _. h)
 
@@ -51,14 +51,14 @@ unfolding placed arcNumber rowNumber reportNumber
 placed-most x next at bs End q = tt
 placed-most x next at bs (Header n o) q = omega arith
 placed-most x next at bs (Change (Set s r c)) q =
-    judged-most (arcNumber x next s r c) _ _ (first-most 5 _ _ (omega (arith, change-most x s r c)) (order-most next _))
+    judged-most (arcNumber x next s r c) _ _ (first-most maxRefusal _ _ (change-most x s r c) (order-most next _))
 placed-most x next at bs (Change (Removed s r)) q = omega arith
 placed-most x next at bs (Row y d p l) q =
     judged-most (rowNumber x next y d p l) _ _
-    (first-most 5 _ _ (cond-most 5 (nodeFault (x .nodes) y) 3 0 (omega arith) (omega arith)) (first-most 5 _ _ (order-most next _) (place-row-most x y d p l)))
+    (first-most maxRefusal _ _ (cond-most maxRefusal (nodeFault (x .nodes) y) 3 0 (omega arith) (omega arith)) (first-most maxRefusal _ _ (order-most next _) (place-row-most x y d p l)))
 placed-most x next at bs (Report s r d l) q =
     judged-most (reportNumber x next s r d l) _ _
-    (first-most 5 _ _ (cond-most 5 (pairFault (x .nodes) s r) 3 0 (omega arith) (omega arith)) (first-most 5 _ _ (order-most next _) (place-report-most x s r d l)))
+    (first-most maxRefusal _ _ (cond-most maxRefusal (pairFault (x .nodes) s r) 3 0 (omega arith) (omega arith)) (first-most maxRefusal _ _ (order-most next _) (place-report-most x s r d l)))
 placed-most x next at bs Round q = omega arith
 placed-most x next at bs FullRound q = omega arith
 placed-most x next at bs (Refusal e p) q = omega (arith, expected inImage at bs (Refusal e p) q .2)
@@ -67,7 +67,7 @@ placed-most x next at bs (Refusal e p) q = omega (arith, expected inImage at bs 
 
 -- number and place of an opening of L bytes
 abbrev Small : ℕ → Opening → Type 0
-Small L o = (o .number ≤ 5) × (o .place ≤ L)
+Small L o = (o .number ≤ maxRefusal) × (o .place ≤ L)
 
 after-small : (L at : ℕ) → at ≤ L → (go : Net → ℕ → Opening) (x : Net) → ((z : Net) (k : ℕ) → Small L (go z k)) → (t : Step) → StopMost t
     → Small L (afterStep go x at t)
@@ -80,21 +80,21 @@ unfolding readRecords
 records-small L zero x next at bs h = (omega arith, omega arith)
 records-small L (suc k) x next at bs h =
     let r = recordOf inImage at bs in
-    after-small L at (omega arith) (λ z above. readRecords k z above (at + r .length) (drop (r .length) bs)) x
+    after-small L at (omega arith) (λ z above. readRecords k z above (at + r .used) (drop (r .used) bs)) x
     (λ z above.
-    records-small L k z above (at + r .length) (drop (r .length) bs) (omega (arith, length-drop (r .length) bs, length-within inImage at bs)))
+    records-small L k z above (at + r .used) (drop (r .used) bs) (omega (arith, length-drop (r .used) bs, length-within inImage at bs)))
     (placed x next (r .event)) (placed-most x next at bs (r .event) refl)
 
--- opening answers a number of at most 5, and a place within the input
+-- opening answers such a number, and a place within the input
 pub open-small : (bs : List ℕ) → Small (length bs) (openOf bs)
-unfolding openOf started
+unfolding openOf started headed
 open-small bs = go (recordOf atStart 0 bs) (recordOf atStart 0 bs .event) (length-within atStart 0 bs) (expected atStart 0 bs _ refl)
   where
-    go : (r : Record) (e : Event) → r .length ≤ length bs → Expected atStart 0 (r .length) e → Small (length bs) (started bs r e)
+    go : (r : Record) (e : Event) → r .used ≤ length bs → Expected atStart 0 (r .used) e → Small (length bs) (started bs r e)
     go r (Header n o) h q =
         cond-by (Small (length bs)) (eqb (freshNumber n o) 0) _ _
-        (λ _. records-small (length bs) (length bs) (freshNet n o) 0 (r .length) (drop (r .length) bs) (omega (arith, length-drop (r .length) bs)))
-        (λ _. (omega (arith, fresh-most n o), omega arith))
+        (λ _. records-small (length bs) (length bs) (freshNet n o) 0 (r .used) (drop (r .used) bs) (omega (arith, length-drop (r .used) bs)))
+        (λ _. (fresh-most n o, omega arith))
     go r (Refusal e p) h q = (omega (arith, q .2), omega (arith, q .0))
     go r End h q = absurd q
     go r (Change a) h q = absurd q
@@ -106,11 +106,11 @@ open-small bs = go (recordOf atStart 0 bs) (recordOf atStart 0 bs .event) (lengt
 -- ---- a run
 
 -- the number of an event
-done-most : (x : Net) (b : List ℕ) (at : ℕ) (bs : List ℕ) (e : Event) → recordOf asEvent at bs .event ≡ e → eventDone x b e .number ≤ 7
+done-most : (x : Net) (b : List ℕ) (at : ℕ) (bs : List ℕ) (e : Event) → recordOf asEvent at bs .event ≡ e → eventDone x b e .number ≤ maxRefusal
 unfolding eventDone
 done-most x b at bs (Change (Set s r c)) q = omega (arith, number-of _ _ _ (change-outcome x s r c), change-most x s r c)
 done-most x b at bs (Change (Removed s r)) q = omega (arith, number-of _ _ _ (change-outcome x s r 0), change-most x s r 0)
-done-most x b at bs Round q = omega (arith, number-of _ _ _ (round-outcome x (words 32 b)), round-most x (words 32 b))
+done-most x b at bs Round q = omega (arith, number-of _ _ _ (round-outcome x (wordsIn 32 b)), round-most x (wordsIn 32 b))
 done-most x b at bs FullRound q = omega (arith, number-of _ _ _ (full-round-outcome x))
 done-most x b at bs (Refusal e p) q = omega (arith, outcome-number e x x, expected asEvent at bs (Refusal e p) q .2)
 done-most x b at bs End q = absurd (expected asEvent at bs End q)
@@ -120,7 +120,7 @@ done-most x b at bs (Report s r d l) q = absurd (expected asEvent at bs (Report 
 
 -- number and place of a run of L bytes
 abbrev pub Brief : ℕ → Running → Type 0
-Brief L o = (o .number ≤ 7) × (o .place ≤ L)
+Brief L o = (o .number ≤ maxRefusal) × (o .place ≤ L)
 
 events-small : (L k : ℕ) (x : Net) (n at : ℕ) (bs : List ℕ) → at + length bs ≤ L → Brief L (readEvents k x n at bs)
 unfolding readEvents afterEvent
@@ -131,11 +131,11 @@ events-small L (suc k) x n at (kind ∷ b) h =
     let o = eventDone x (bodyOf kind b) (r .event) in
     cond-by (Brief L) (eqb (o .number) 0) _ _
     (λ _.
-    events-small L k (o .net) (n + roundsIn (r .event)) (at + r .length) (drop (r .length) (kind ∷ b))
-    (omega (arith, length-drop (r .length) (kind ∷ b), length-within asEvent at (kind ∷ b))))
+    events-small L k (o .net) (n + roundsIn (r .event)) (at + r .used) (drop (r .used) (kind ∷ b))
+    (omega (arith, length-drop (r .used) (kind ∷ b), length-within asEvent at (kind ∷ b))))
     (λ _. (done-most x (bodyOf kind b) at (kind ∷ b) (r .event) refl, omega arith))
 
--- a run answers a number of at most 7, and a place within the input
+-- and so does a run
 pub run-small : (bs : List ℕ) → Brief (length bs) (runOf bs)
 run-small bs = go (eq-or-ne (openOf bs .number) 0)
   where
@@ -144,4 +144,4 @@ run-small bs = go (eq-or-ne (openOf bs .number) 0)
         rw (run-opened bs e)
         (events-small (length bs) (length bs) (openOf bs .net) 0 (openOf bs .used) (drop (openOf bs .used) bs)
         (omega (arith, open-used bs, length-drop (openOf bs .used) bs)))
-    go (inr n) = rw (run-refused bs n) (omega (arith, open-small bs .0), open-small bs .1)
+    go (inr n) = rw (run-refused bs n) (open-small bs)

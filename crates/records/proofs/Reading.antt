@@ -1,7 +1,7 @@
 -- Laws of a record read: its length, the events of each section, and the number and place of a refusal.
 -- Assumes nothing.
-use mathlib.Core.Path.{_≡_, refl, ap, subst}
-use mathlib.Core.Bool.{true, false}
+use mathlib.Core.Path.{_≡_, refl, sym, ap, subst}
+use mathlib.Core.Bool.{Bool, true, false}
 use mathlib.Core.Logic.{_⊎_, inl, inr, _≢_}
 use mathlib.Core.List.{List, [], _∷_}
 use Prim.Native.Nat.{ℕ, zero, suc, _<_, _≤_}
@@ -9,52 +9,80 @@ use native.Mathlib.Omega.{arith}
 use lib.Dec.{ltb}
 use lib.ListN.{length, take}
 use borrow.Author.Tests.{lt-ltb, le-ltb, ne-eqb, ltb-false}
-use Rattle.ancestors.proofs.Cases.{le-or-lt, never, cond-by}
+use Rattle.ancestors.proofs.Cases.{bool-cases, le-or-lt, eq-or-ne, never, cond-by}
 use Rattle.network.specs.Faults.{gradeFault}
-use Rattle.records.specs.Records.{Section, atStart, inImage, asEvent, bodyLength, recordLength, bodyOf, gradeChange, eventOf, allowed, refusedRecord, bodied, recordOf}
+use Rattle.records.specs.Records.{Section, atStart, inImage, asEvent, bodies, bodyLength, recordLength, bodyOf, gradeChange, eventOf, allowed, refusedRecord, bodied, recordOf}
 use Rattle.records.specs.declared.Event.{Event}
 use Rattle.records.specs.declared.Event.the-variants.{End, Header, Change, Row, Report, Round, FullRound, Refusal}
 use Rattle.records.specs.declared.Record.{Record}
 
 -- ---- kinds
 
--- no section allows a kind from 8 on
-pub never-allowed : (z : Section) (k : ℕ) → 8 ≤ k → allowed z k ≡ false
+-- the number of kinds
+abbrev pub kinds : ℕ
+kinds = length bodies
+
+-- no section allows a kind from there on
+never-allowed : (z : Section) (k : ℕ) → kinds ≤ k → allowed z k ≡ false
 unfolding allowed
 never-allowed atStart k h = rw (ne-eqb k 1 (λ e. omega arith))
 never-allowed inImage k h = rw (ne-eqb k 0 (λ e. omega arith), lt-ltb 1 k (omega arith), le-ltb k 5 (omega arith))
-never-allowed asEvent k h = rw (ne-eqb k 2 (λ e. omega arith), lt-ltb 4 k (omega arith), le-ltb k 8 h)
+never-allowed asEvent k h = rw (ne-eqb k 2 (λ e. omega arith), lt-ltb 4 k (omega arith), le-ltb k kinds h)
 
--- a kind that is allowed is below 8
-pub kind-small : (z : Section) (k : ℕ) → allowed z k ≡ true → k < 8
-kind-small z k e = go (le-or-lt 8 k)
+-- a kind that is allowed is one of them
+kind-small : (z : Section) (k : ℕ) → allowed z k ≡ true → k < kinds
+kind-small z k e = go (le-or-lt kinds k)
   where
-    go : (8 ≤ k) ⊎ (k < 8) → k < 8
+    go : (kinds ≤ k) ⊎ (k < kinds) → k < kinds
     go (inl h) = never (allowed z k) e (never-allowed z k h)
     go (inr h) = h
 
--- what holds of each kind from 0 to 7 holds of every kind below 8
-pub by-kind : (Q : ℕ → Type 0) → Q 0 → Q 1 → Q 2 → Q 3 → Q 4 → Q 5 → Q 6 → Q 7 → (k : ℕ) → k < 8 → Q k
-by-kind Q a b c d e f g h zero l = a
-by-kind Q a b c d e f g h (suc zero) l = b
-by-kind Q a b c d e f g h (suc (suc zero)) l = c
-by-kind Q a b c d e f g h (suc (suc (suc zero))) l = d
-by-kind Q a b c d e f g h (suc (suc (suc (suc zero)))) l = e
-by-kind Q a b c d e f g h (suc (suc (suc (suc (suc zero))))) l = f
-by-kind Q a b c d e f g h (suc (suc (suc (suc (suc (suc zero)))))) l = g
-by-kind Q a b c d e f g h (suc (suc (suc (suc (suc (suc (suc zero))))))) l = h
-by-kind Q a b c d e f g h (suc (suc (suc (suc (suc (suc (suc (suc k)))))))) l = absurd (omega arith)
+-- A, and B too if the test passes
+abbrev pub AndIf : Bool → Type 0 → Type 0 → Type 0
+AndIf true A B = A × B
+AndIf false A B = A
 
--- at a kind that a section does not allow
-pub clash : {A : Type 0} → false ≡ true → A
-clash e = never false e refl
+-- Q of each kind below n that z allows, given as tt & q & r ..
+abbrev pub EachAllowed : Section → (ℕ → Type 0) → ℕ → Type 0
+EachAllowed z Q zero = Unit
+EachAllowed z Q (suc n) = AndIf (allowed z n) (EachAllowed z Q n) (Q n)
+
+infixl 4 _&_
+pub _&_ : {A B : Type 0} → A → B → A × B
+a & b = (a, b)
+
+module _ (z : Section) (Q : ℕ → Type 0) where
+  -- the kinds below the last, and the last
+  fewer : (n : ℕ) (t : Bool) → allowed z n ≡ t → AndIf t (EachAllowed z Q n) (Q n) → EachAllowed z Q n × (allowed z n ≡ true → Q n)
+  fewer n true e p = (p .0, λ a. p .1)
+  fewer n false e p = (p, λ a. never (allowed z n) a e)
+
+  -- each of them
+  each-below : (n : ℕ) → EachAllowed z Q n → (k : ℕ) → k < n → allowed z k ≡ true → Q k
+  each-below zero p k h = absurd (omega arith)
+  each-below (suc n) p k h = let w = fewer n (allowed z n) refl p in go (eq-or-ne k n) (w .1) (λ l. each-below n (w .0) k l)
+    where
+      go : (k ≡ n) ⊎ (k ≢ n) → (allowed z n ≡ true → Q n) → (k < n → allowed z k ≡ true → Q k) → allowed z k ≡ true → Q k
+      go (inl e) q f = subst (λ j. allowed z j ≡ true → Q j) (sym e) q
+      go (inr e) q f = f (omega (arith, e))
+
+  -- so Q holds of every kind that z allows
+  pub by-allowed : EachAllowed z Q kinds → (k : ℕ) → allowed z k ≡ true → Q k
+  by-allowed p k a = each-below kinds p k (kind-small z k a) a
+
+-- a number that is none of the kinds that z allows
+pub none-allowed : (z : Section) (k : ℕ) → EachAllowed z (λ j. k ≢ j) kinds → allowed z k ≡ false
+none-allowed z k n = go (bool-cases (allowed z k))
+  where
+    go : (allowed z k ≡ true) ⊎ (allowed z k ≡ false) → allowed z k ≡ false
+    go (inl e) = absurd (by-allowed z (λ j. k ≢ j) n k e refl)
+    go (inr e) = e
 
 -- ---- the outcomes of reading
 
--- what holds of both choices, each under its test, holds of the one taken
 -- a record of kind k that was read whole
 abbrev pub wholeRecord : ℕ → ℕ → List ℕ → Record
-wholeRecord at k b = record { event = eventOf at k (bodyOf k b); length = recordLength k }
+wholeRecord at k b = record { event = eventOf at k (bodyOf k b); used = recordLength k }
 
 -- what holds of a record that is cut, of one whose kind is not allowed and of every whole one holds of the record read
 pub by-outcome : (P : Record → Type 0) (z : Section) (at : ℕ) (bs : List ℕ) → P (refusedRecord 1 at) → P (refusedRecord 2 at) →
@@ -69,15 +97,15 @@ by-outcome P z at (k ∷ b) p q w =
 -- ---- lengths
 
 -- a record lies within the bytes
-pub length-within : (z : Section) (at : ℕ) (bs : List ℕ) → recordOf z at bs .length ≤ length bs
+pub length-within : (z : Section) (at : ℕ) (bs : List ℕ) → recordOf z at bs .used ≤ length bs
 length-within z at bs =
-    by-outcome (λ r. r .length ≤ length bs) z at bs (omega arith) (omega arith)
+    by-outcome (λ r. r .used ≤ length bs) z at bs (omega arith) (omega arith)
     (λ k b e _ h. let l = ap length e in omega arith)
 
 -- a record that is not refused has at least its kind byte
-pub length-some : (z : Section) (at : ℕ) (bs : List ℕ) → ((e p : ℕ) → recordOf z at bs .event ≢ Refusal e p) → 0 < recordOf z at bs .length
+pub length-some : (z : Section) (at : ℕ) (bs : List ℕ) → ((e p : ℕ) → recordOf z at bs .event ≢ Refusal e p) → 0 < recordOf z at bs .used
 length-some z at bs =
-    by-outcome (λ r. ((e p : ℕ) → r .event ≢ Refusal e p) → 0 < r .length) z at bs (λ n. absurd (n 1 at refl)) (λ n. absurd (n 2 at refl))
+    by-outcome (λ r. ((e p : ℕ) → r .event ≢ Refusal e p) → 0 < r .used) z at bs (λ n. absurd (n 1 at refl)) (λ n. absurd (n 2 at refl))
     (λ k b _ _ _ _. omega arith)
 
 -- ---- the events of each section, with the record's length
@@ -131,52 +159,42 @@ refused-expected atStart at e a b = (refl, a, b)
 refused-expected inImage at e a b = (refl, a, b)
 refused-expected asEvent at e a b = (refl, a, b)
 
-whole-expected : (z : Section) (at : ℕ) (b : List ℕ) (k : ℕ) → k < 8 → allowed z k ≡ true → Expected z at (recordLength k) (eventOf at k b)
+whole-expected : (z : Section) (at : ℕ) (b : List ℕ) (k : ℕ) → allowed z k ≡ true → Expected z at (recordLength k) (eventOf at k b)
 unfolding allowed bodyLength eventOf gradeChange
-whole-expected atStart at b =
-    by-kind (λ k. allowed atStart k ≡ true → StartEvent at (recordLength k) (eventOf at k b)) clash (λ _. refl) clash clash clash clash clash clash
-whole-expected inImage at b =
-    by-kind (λ k. allowed inImage k ≡ true → ImageEvent at (recordLength k) (eventOf at k b)) (λ _. refl) clash (λ _. refl) (λ _. refl) (λ _. refl)
-    clash clash clash
+whole-expected atStart at b = by-allowed atStart (λ k. StartEvent at (recordLength k) (eventOf at k b)) (tt & refl)
+whole-expected inImage at b = by-allowed inImage (λ k. ImageEvent at (recordLength k) (eventOf at k b)) (tt & refl & refl & refl & refl)
 whole-expected asEvent at b =
-    by-kind (λ k. allowed asEvent k ≡ true → LaterEvent at (recordLength k) (eventOf at k b)) clash clash (λ _. (omega arith, omega arith)) clash clash
-    (λ _. refl) (λ _. refl)
-    (λ _. cond-by (LaterEvent at 4) (gradeFault _) _ _ (λ _. (refl, omega arith, omega arith)) (λ _. (omega arith, omega arith)))
+    by-allowed asEvent (λ k. LaterEvent at (recordLength k) (eventOf at k b))
+    (tt & (omega arith, omega arith) & refl & refl
+    & cond-by (LaterEvent at 4) (gradeFault _) _ _ (λ _. (refl, omega arith, omega arith)) (λ _. (omega arith, omega arith)))
 
 -- of the record read
-pub expected : (z : Section) (at : ℕ) (bs : List ℕ) (e : Event) → recordOf z at bs .event ≡ e → Expected z at (recordOf z at bs .length) e
+pub expected : (z : Section) (at : ℕ) (bs : List ℕ) (e : Event) → recordOf z at bs .event ≡ e → Expected z at (recordOf z at bs .used) e
 expected z at bs e q =
-    subst (Expected z at (recordOf z at bs .length)) q
-    (by-outcome (λ r. Expected z at (r .length) (r .event)) z at bs
+    subst (Expected z at (recordOf z at bs .used)) q
+    (by-outcome (λ r. Expected z at (r .used) (r .event)) z at bs
     (refused-expected z at 1 (omega arith) (omega arith)) (refused-expected z at 2 (omega arith) (omega arith))
-    (λ k b _ a _. whole-expected z at (bodyOf k b) k (kind-small z k a) a))
+    (λ k b _ a _. whole-expected z at (bodyOf k b) k a))
 
--- ---- for every section
+-- ---- a round
 
--- a refusal's place and number
--- a round's record has 129 bytes
-pub round-length : (z : Section) (at : ℕ) (bs : List ℕ) → recordOf z at bs .event ≡ Round → recordOf z at bs .length ≡ 129
-round-length atStart at bs q = absurd (expected atStart at bs Round q)
-round-length inImage at bs q = absurd (expected inImage at bs Round q)
-round-length asEvent at bs q = expected asEvent at bs Round q
-
--- and lies within the bytes
-pub round-within : (z : Section) (at : ℕ) (bs : List ℕ) → recordOf z at bs .event ≡ Round → 129 ≤ length bs
-round-within z at bs q = omega (arith, round-length z at bs q, length-within z at bs)
+-- its record lies within the bytes
+pub round-fits : (at : ℕ) (bs : List ℕ) → recordOf asEvent at bs .event ≡ Round → 129 ≤ length bs
+round-fits at bs q = omega (arith, expected asEvent at bs Round q, length-within asEvent at bs)
 
 -- no other kind gives a round
-round-only : (at : ℕ) (b : List ℕ) (k : ℕ) → k < 8 → eventOf at k b ≡ Round → k ≡ 5
-unfolding eventOf gradeChange
+round-only : (at : ℕ) (b : List ℕ) (k : ℕ) → allowed asEvent k ≡ true → eventOf at k b ≡ Round → k ≡ 5
+unfolding allowed eventOf gradeChange
 round-only at b =
-    by-kind (λ k. eventOf at k b ≡ Round → k ≡ 5) (λ q. cc) (λ q. cc) (λ q. cc) (λ q. cc) (λ q. cc) (λ _. refl) (λ q. cc)
-    (cond-by (λ (e : Event). e ≡ Round → _≡_ {A = ℕ} 7 5) (gradeFault _) _ _ (λ _ q. cc) (λ _ q. cc))
+    by-allowed asEvent (λ k. eventOf at k b ≡ Round → k ≡ 5)
+    (tt & (λ q. cc) & (λ _. refl) & (λ q. cc) & cond-by (λ (e : Event). e ≡ Round → _≡_ {A = ℕ} 7 5) (gradeFault _) _ _ (λ _ q. cc) (λ _ q. cc))
 
--- a round is of kind 5, and its body is 128 bytes
-pub round-kind : (z : Section) (at k : ℕ) (b : List ℕ) → recordOf z at (k ∷ b) .event ≡ Round → k ≡ 5
-round-kind z at k b =
-    by-outcome (λ r. r .event ≡ Round → k ≡ 5) z at (k ∷ b) (λ q. cc) (λ q. cc)
-    (λ j c e a _ q. let o = round-only at (bodyOf j c) j (kind-small z j a) q in cc)
+-- it is of kind 5, and its body is 128 bytes
+round-five : (at k : ℕ) (b : List ℕ) → recordOf asEvent at (k ∷ b) .event ≡ Round → k ≡ 5
+round-five at k b =
+    by-outcome (λ r. r .event ≡ Round → k ≡ 5) asEvent at (k ∷ b) (λ q. cc) (λ q. cc)
+    (λ j c e a _ q. let o = round-only at (bodyOf j c) j a q in cc)
 
-pub round-body : (z : Section) (at k : ℕ) (b : List ℕ) → recordOf z at (k ∷ b) .event ≡ Round → bodyOf k b ≡ take 128 b
+pub round-body : (at k : ℕ) (b : List ℕ) → recordOf asEvent at (k ∷ b) .event ≡ Round → bodyOf k b ≡ take 128 b
 unfolding bodyOf bodyLength
-round-body z at k b q = rw (round-kind z at k b q)
+round-body at k b q = rw (round-five at k b q)

@@ -11,13 +11,13 @@ use Rattle.ancestors.specs.Ancestors.{own}
 use Rattle.ancestors.proofs.Cases.{bool-cases, eq-or-ne, le-or-lt, never}
 use Rattle.network.specs.Faults.{pairFault}
 use Rattle.network.specs.Network.{Row, none, root, via, Report, empty, told, Net, Within}
-use Rattle.network.proofs.Effects.{same-net}
+use Rattle.network.proofs.Effects.{Stays, nodes-stay, origin-stay, same-net}
 use Rattle.network.proofs.FaultLaws.{node-free, pair-says}
 use Rattle.network.proofs.Limits.{within-size, within-row, within-report}
 use Rattle.records.specs.Numbers.{be8, be16, be32, num8, num16, num32}
 use Rattle.records.specs.Records.{arcRecord, rowRecord, reportRecord}
 use Rattle.records.specs.Image.{arcBytes, rowBytes, reportBytes}
-use Rattle.records.specs.Opening.{arcRank, rowRank, reportRank}
+use Rattle.records.specs.Opening.{rankCount, arcRank, rowRank, reportRank}
 use Rattle.records.proofs.Ranks.{rankBytes}
 use Rattle.records.proofs.NumberLaws.{num16-of, num32-of}
 use Rattle.records.proofs.PlacedRecords.{pair-rank-small, arc-here, row-here, report-here, arc-some, arc-none}
@@ -111,8 +111,14 @@ cost-said a b wa wb n s r e same =
 
 -- ---- the same bytes, the same network
 
-module _ (a b : Net) (wa : Within a) (wb : Within b) (n : a .nodes ≡ b .nodes) (o : a .origin ≡ b .origin)
-    (same : (i : ℕ) → i < 2080 → rankBytes a i ≡ rankBytes b i) where
+module _ (a b : Net) (wa : Within a) (wb : Within b) (stays : Stays b a)
+    (same : (i : ℕ) → i < rankCount → rankBytes a i ≡ rankBytes b i) where
+  n : a .nodes ≡ b .nodes
+  n = nodes-stay stays
+
+  o : a .origin ≡ b .origin
+  o = origin-stay stays
+
   pair-small : (s r : ℕ) → pairFault (a .nodes) s r ≡ false → (s < 32) × (r < 32)
   pair-small s r e =
       let p = pair-says (a .nodes) s r e in
@@ -155,5 +161,5 @@ module _ (a b : Net) (wa : Within a) (wb : Within b) (n : a .nodes ≡ b .nodes)
 
   pub same-image : a ≡ b
   same-image =
-      same-net a b n o (λ s r. same-cost s r (bool-cases (pairFault (a .nodes) s r)))
+      same-net a b stays (λ s r. same-cost s r (bool-cases (pairFault (a .nodes) s r)))
       (λ y. same-row y (le-or-lt (a .nodes) y) (eq-or-ne y (a .origin))) (λ s r. same-held s r (bool-cases (pairFault (a .nodes) s r)))

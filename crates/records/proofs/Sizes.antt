@@ -63,9 +63,9 @@ report-most s r empty = omega arith
 report-most s r (told d l) = omega (arith, report-long s r d l)
 
 -- bytes that a test may leave out
-cond-most : (m : ℕ) (b : Bool) (l : List ℕ) → length l ≤ m → length (cond b [] l) ≤ m
-cond-most m true l h = omega arith
-cond-most m false l h = h
+kept-most : (m : ℕ) (b : Bool) (l : List ℕ) → length l ≤ m → length (cond b [] l) ≤ m
+kept-most m true l h = omega arith
+kept-most m false l h = h
 
 -- a first number without bytes
 each-front : (f : ℕ → List ℕ) (o k : ℕ) → f o ≡ [] → each f o (suc k) ≡ each f (suc o) k
@@ -101,7 +101,7 @@ pairs-most x f m h = omega (arith, each-most (λ s. each (g s) 0 maxNodes) (m * 
     self s (inr e) = absurd (pair-says (x .nodes) s s e .2 refl)
 
     line : (s : ℕ) → s < maxNodes → length (each (g s) 0 maxNodes) ≤ m * (maxNodes - 1)
-    line s b = each-gap (g s) m maxNodes s b (self s (bool-cases (pairFault (x .nodes) s s))) (λ r. cond-most m (pairFault (x .nodes) s r) (f s r) (h s r))
+    line s b = each-gap (g s) m maxNodes s b (self s (bool-cases (pairFault (x .nodes) s s))) (λ r. kept-most m (pairFault (x .nodes) s r) (f s r) (h s r))
 
 module _ (x : Net) where
   -- the rows written, and that of y
@@ -112,7 +112,7 @@ module _ (x : Net) where
   row-of y = cond (nodeFault (x .nodes) y) [] (rowBytes y (x .row y))
 
   row-of-most : (y : ℕ) → length (row-of y) ≤ recordLength 3
-  row-of-most y = cond-most (recordLength 3) (nodeFault (x .nodes) y) (rowBytes y (x .row y)) (row-most y (x .row y))
+  row-of-most y = kept-most (recordLength 3) (nodeFault (x .nodes) y) (rowBytes y (x .row y)) (row-most y (x .row y))
 
   -- the origin's is not written
   rows-most : (l : ℕ) → x .origin < maxNodes → x .row (x .origin) ≡ root l → length rows ≤ recordLength 3 * (maxNodes - 1)

@@ -18,7 +18,7 @@ be16 x = be8 (x / 256) ++ be8 x
 unfoldable pub be32 : ℕ → List ℕ
 be32 x = be16 (x / 65536) ++ be16 x
 
--- the number in the byte, the two and the four bytes of b from i on
+-- the number in the byte, the two and the four bytes of b from i on; a byte past the end counts as 0
 unfoldable pub num8 : List ℕ → ℕ → ℕ
 num8 b i = getD b i 0
 
@@ -29,6 +29,6 @@ unfoldable pub num32 : List ℕ → ℕ → ℕ
 num32 b i = num16 b i * 65536 + num16 b (i + 2)
 
 -- k words of four bytes
-unfoldable pub words : ℕ → List ℕ → List ℕ
-words zero b = []
-words (suc k) b = num32 b 0 ∷ words k (drop 4 b)
+unfoldable pub wordsIn : ℕ → List ℕ → List ℕ
+wordsIn zero b = []
+wordsIn (suc k) b = num32 b 0 ∷ wordsIn k (drop 4 b)

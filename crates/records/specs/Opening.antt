@@ -5,7 +5,7 @@ use mathlib.Core.List.{List}
 use Prim.Native.Nat.{ℕ, zero, suc, _+_, _*_}
 use lib.Dec.{eqb, ltb}
 use lib.ListN.{length, drop}
-use Rattle.network.specs.Faults.{nodeFault, pairFault}
+use Rattle.network.specs.Faults.{maxNodes, pairCount, nodeFault, pairFault, firstOf}
 use Rattle.network.specs.Network.{via, told, Net, withRow, withHeld, freshNet, freshNumber}
 use Rattle.network.specs.Placing.{placeRowNumber, placeReportNumber}
 use Rattle.network.specs.Change.{changed, changeNumber}
@@ -17,25 +17,31 @@ use Rattle.records.specs.declared.Record.{Record}
 
 -- ---- image order
 
+-- the places that an image can fill: one for each pair of nodes, then one for each node, then one for each pair
+abbrev pub firstRow : ℕ
+firstRow = pairCount
+
+abbrev pub firstReport : ℕ
+firstReport = firstRow + maxNodes
+
+abbrev pub rankCount : ℕ
+rankCount = firstReport + pairCount
+
 -- the rank of a record in image order: arcs and reports ascend by sender then receiver, rows by node
 unfoldable pub arcRank : ℕ → ℕ → ℕ
-arcRank s r = s * 32 + r
+arcRank s r = s * maxNodes + r
 
 unfoldable pub rowRank : ℕ → ℕ
-rowRank y = 1024 + y
+rowRank y = firstRow + y
 
 unfoldable pub reportRank : ℕ → ℕ → ℕ
-reportRank s r = 1056 + arcRank s r
+reportRank s r = firstReport + arcRank s r
 
 -- 4 for a record not above the one before it, where the ranks from `next` on are above
 unfoldable pub orderNumber : ℕ → ℕ → ℕ
 orderNumber next k = cond (ltb k next) 4 0
 
 -- ---- a record of an image
-
--- the first of two numbers that is not 0
-unfoldable pub firstOf : ℕ → ℕ → ℕ
-firstOf a b = cond (eqb a 0) b a
 
 -- 3, then 4; an arc's record has no fault of form
 unfoldable pub arcNumber : Net → ℕ → ℕ → ℕ → ℕ → ℕ
@@ -101,12 +107,16 @@ unfoldable pub readRecords : ℕ → Net → ℕ → ℕ → List ℕ → Openin
 readRecords zero x next at bs = refusedOpening 1 at
 readRecords (suc k) x next at bs =
     let r : Record = recordOf inImage at bs in
-    afterStep (λ z above. readRecords k z above (at + r .length) (drop (r .length) bs)) x at (placed x next (r .event))
+    afterStep (λ z above. readRecords k z above (at + r .used) (drop (r .used) bs)) x at (placed x next (r .event))
 
--- the first record, then the others; a record has at least one byte, so that there are not more records than bytes; other kinds were refused
--- as 2 when the record was read
+-- the opening of the bytes bs whose first record ends at k and gives n and origin; a record has at least one byte, so that there are not more
+-- records than bytes
+unfoldable pub headed : List ℕ → ℕ → ℕ → ℕ → Opening
+headed bs k n o = cond (eqb (freshNumber n o) 0) (readRecords (length bs) (freshNet n o) 0 k (drop k bs)) (refusedOpening (freshNumber n o) 0)
+
+-- the first record, then the others; other kinds were refused as 2 when the record was read
 unfoldable pub started : List ℕ → Record → Event → Opening
-started bs r (Header n o) = cond (eqb (freshNumber n o) 0) (readRecords (length bs) (freshNet n o) 0 (r .length) (drop (r .length) bs)) (refusedOpening (freshNumber n o) 0)
+started bs r (Header n o) = headed bs (r .used) n o
 started bs r (Refusal e p) = refusedOpening e p
 started bs r End = refusedOpening 2 0
 started bs r (Change c) = refusedOpening 2 0

@@ -88,13 +88,13 @@ bodyOf k b = take (bodyLength k) b
 
 -- a record refused before its body is read
 abbrev pub refusedRecord : ℕ → ℕ → Record
-refusedRecord e at = record { event = Refusal e at; length = 0 }
+refusedRecord e at = record { event = Refusal e at; used = 0 }
 
 -- a record of kind k before the bytes b: 1 for a short body
 unfoldable pub bodied : ℕ → ℕ → List ℕ → Record
 bodied at k b =
     cond (ltb (length b) (bodyLength k)) (refusedRecord 1 at)
-    (record { event = eventOf at k (bodyOf k b); length = recordLength k })
+    (record { event = eventOf at k (bodyOf k b); used = recordLength k })
 
 -- the record at the front of the bytes that begin at the place `at`: missing kind byte 1, then 2, short body 1
 unfoldable pub recordOf : Section → ℕ → List ℕ → Record

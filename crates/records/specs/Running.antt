@@ -8,7 +8,7 @@ use lib.ListN.{length, drop}
 use Rattle.network.specs.Network.{Net, Outcome, outcome}
 use Rattle.network.specs.Change.{changeOf}
 use Rattle.network.specs.Round.{roundOf, fullRoundOf}
-use Rattle.records.specs.Numbers.{words}
+use Rattle.records.specs.Numbers.{wordsIn}
 use Rattle.records.specs.Records.{asEvent, bodyOf, recordOf}
 use Rattle.records.specs.Opening.{Opening, openOf}
 use Rattle.records.specs.declared.ArcChange.the-variants.{Set, Removed}
@@ -20,7 +20,7 @@ use Rattle.records.specs.declared.Record.{Record}
 unfoldable pub eventDone : Net → List ℕ → Event → Outcome
 eventDone x b (Change (Set s r c)) = changeOf x s r c
 eventDone x b (Change (Removed s r)) = changeOf x s r 0
-eventDone x b Round = roundOf x (words 32 b)
+eventDone x b Round = roundOf x (wordsIn 32 b)
 eventDone x b FullRound = fullRoundOf x
 eventDone x b (Refusal e p) = outcome e x x
 eventDone x b End = outcome 2 x x
@@ -56,7 +56,7 @@ readEvents zero x rounds at bs = record { number = 0; place = 0; rounds = rounds
 readEvents (suc k) x rounds at [] = record { number = 0; place = 0; rounds = rounds; net = x }
 readEvents (suc k) x rounds at (kind ∷ b) =
     let r : Record = recordOf asEvent at (kind ∷ b) in
-    afterEvent (λ z. readEvents k z (rounds + roundsIn (r .event)) (at + r .length) (drop (r .length) (kind ∷ b))) at rounds (eventDone x (bodyOf kind b) (r .event))
+    afterEvent (λ z. readEvents k z (rounds + roundsIn (r .event)) (at + r .used) (drop (r .used) (kind ∷ b))) at rounds (eventDone x (bodyOf kind b) (r .event))
 
 -- with its image refused a run answers as opening does, with 0 rounds; an event has at least one byte
 unfoldable pub runFrom : List ℕ → Opening → Running

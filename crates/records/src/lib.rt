@@ -42,8 +42,8 @@ pub enum Event {
     },
 }
 
-// A record that was read, and its length with the kind byte; 0 where it was refused for its kind or was cut.
+// A record that was read, and the bytes that it takes, its kind byte among them; 0 where it was refused for its kind or was cut.
 pub struct Record {
     pub event: Event,
-    pub length: usize,
+    pub used: usize,
 }

@@ -2,30 +2,28 @@
 -- Assumes nothing.
 use mathlib.Core.Path.{_≡_, refl, sym, ap, ap₂, subst, _∙_}
 use mathlib.Core.Bool.{true, false}
-use mathlib.Core.Logic.{_≢_, ⊎-elim}
+use mathlib.Core.Logic.{_≢_}
 use mathlib.Core.List.{List, _∷_, _++_}
 use Prim.Native.Nat.{ℕ, suc, _+_, _-_, _<_, _≤_}
 use native.Mathlib.Omega.{arith}
-use native.Mathlib.Nat.{zero-add}
-use native.Mathlib.Numerals.{add-one}
-use lib.ListN.{length, set, take, drop, getD, length-drop, length-set}
-use lib.Seq.{take-all, take-length, paste-suc, length-paste, drop-length, drop-cons, drop-set-lt, getD-set-same}
+use lib.ListN.{length, set, take, drop, length-drop, length-set}
+use lib.Seq.{take-all, drop-length, drop-cons, drop-set-lt, getD-set-same}
 use borrow.Author.Tests.{ne-eqb}
 use Rattle.ancestors.specs.Ancestors.{has, put}
-use Rattle.ancestors.proofs.Cases.{bool-cases}
-use Rattle.network.specs.Faults.{maxNodes, nodeFault}
+use Rattle.network.specs.Faults.{maxNodes}
 use Rattle.network.specs.Network.{none, root, via, Net}
-use Rattle.network.specs.Route.{routeRow, Walked, broken, reached, walk, walkBack, unrouted, routeNumber, routeOf}
+use Rattle.network.specs.Route.{routeRow, Walked, broken, reached, walk, walkBack, startNumber, routeNumber, routeOf}
 use Rattle.network.specs.Writing.{Writes}
-use Rattle.network.proofs.Accepting.{two-tests}
 use Rattle.network.proofs.FaultLaws.{node-says}
-use Rattle.network.proofs.RouteLaws.{route-three, route-eight, route-nine, route-six, route-free, route-refused, route-written}
+use Rattle.network.proofs.RouteLaws.{route-start, route-nine, route-six, route-free, route-refused, route-written}
 use Rattle.network.proofs.Walking.{reads-none, reads-row, none-unrouted, root-routed, via-routed, walk-start, walk-again, walk-lost, walk-arrived, walk-onward, walk-spent}
+use Rattle.filling.specs.Filling.{Wrote, copied}
+use Rattle.filling.proofs.Copying.{wrote-all}
 use Rattle.memory.specs.Answers.{readRow, rowMeans}
 use Rattle.memory.specs.declared.RowRead.{RowRead}
 use Rattle.memory.specs.declared.RowRead.the-variants as R
 use Rattle.memory.proofs.Laws.{said-refused, said-none, said-origin, said-route}
-use Rattle.route.specs.Inner.{startNumber, walkOf, Laid}
+use Rattle.route.specs.Inner.{walkOf, Laid}
 
 -- ---- a row that is read
 
@@ -110,55 +108,21 @@ module _ (w : Walked) (x : Net) (y met left : ℕ) (bytes : List ℕ) (inv : w �
             here ∙ walk-onward (left - 1) x y met _ new d p l r ∙
             ap₂ (λ (n : ℕ) (s : List ℕ). walk (left - 1) x p n s) (sym e) (sym (stored bytes (left - 1) y (omega arith)))
 
--- ---- bytes copied
-
--- the output with i bytes copied to its front
-abbrev pub copied : List ℕ → List ℕ → ℕ → List ℕ
-copied bytes out i = take i bytes ++ drop i out
-
-module _ (bytes out : List ℕ) (room : length bytes ≤ length out) (i : ℕ) where
-  -- a byte more
-  pub copied-step : i < length bytes → set (copied bytes out i) i (getD bytes i 0) ≡ copied bytes out (i + 1)
-  copied-step h = rw add-one (simp zero-add at (paste-suc out 0 bytes i 0 (omega arith) h))
-
-  pub copied-length : i ≤ length bytes → length (copied bytes out i) ≡ length out
-  copied-length h = simp zero-add at (length-paste out 0 bytes i (omega arith) h)
-
-  -- every byte
-  pub copied-all : i ≡ length bytes → copied bytes out i ≡ bytes ++ drop (length bytes) out
-  copied-all e = rw (e, take-length)
-
 -- ---- the answers
-
-module _ (x : Net) (y : ℕ) where
-  -- the numbers before the walk come first
-  start-first : (room : ℕ) → startNumber x y ≢ 0 → routeNumber x y room ≡ startNumber x y
-  unfolding startNumber
-  start-first room h = ⊎-elim (λ f. route-three x y room f ∙ rw f) (λ f. node f) (bool-cases (nodeFault (x .nodes) y))
-    where
-      node : nodeFault (x .nodes) y ≡ false → routeNumber x y room ≡ startNumber x y
-      node f = ⊎-elim (λ u. route-eight x y room f u ∙ rw (f, u)) (λ (u : unrouted (x .row y) ≡ false). absurd (h (rw (f, u)))) (bool-cases (unrouted (x .row y)))
-
-  -- where they find nothing, y is a node with a route
-  start-passed : startNumber x y ≡ 0 → (nodeFault (x .nodes) y ≡ false) × (unrouted (x .row y) ≡ false)
-  unfolding startNumber
-  start-passed e = two-tests (nodeFault (x .nodes) y) (unrouted (x .row y)) 2 7 e
 
 module _ (x : Net) (y : ℕ) (out : List ℕ) where
   -- refused with the number k, nothing is written
-  refused-as : (k : ℕ) → routeNumber x y (length out) ≡ k → k ≢ 0 → Writes (routeOf x y out) (record { number = k; length = 0 }) out
-  refused-as k e h = rw (route-refused x y out k e h) (record { number = refl; length = refl; output = refl })
+  refused-as : (k : ℕ) → routeNumber x y (length out) ≡ k → k ≢ 0 → Writes (routeOf x y out) (record { number = k; used = 0 }) out
+  refused-as k e h = rw (route-refused x y out k e h) (record { number = refl; used = refl; output = refl })
 
-  pub answer-start : (k : ℕ) → k ≡ startNumber x y → k ≢ 0 → Writes (routeOf x y out) (record { number = k; length = 0 }) out
-  answer-start k e h = refused-as k (start-first x y (length out) (λ z. h (e ∙ z)) ∙ sym e) h
+  pub answer-start : (k : ℕ) → k ≡ startNumber x y → k ≢ 0 → Writes (routeOf x y out) (record { number = k; used = 0 }) out
+  answer-start k e h = refused-as k (route-start x y (length out) (λ z. h (e ∙ z)) ∙ sym e) h
 
   -- the walk left k nodes at the end of the bytes
   module _ (first : startNumber x y ≡ 0) (bytes : List ℕ) (k : ℕ) (laid : Laid (walkBack x y) bytes k) where
-    pub answer-nine : k ≡ 0 → Writes (routeOf x y out) (record { number = 9; length = 0 }) out
+    pub answer-nine : k ≡ 0 → Writes (routeOf x y out) (record { number = 9; used = 0 }) out
     unfolding walkOf
-    answer-nine z =
-        let p = start-passed x y first in
-        refused-as 9 (route-nine x y (length out) (p .0) (p .1) (laid .walk ∙ rw z)) (λ e. omega arith)
+    answer-nine z = refused-as 9 (route-nine x y (length out) first (laid .walk ∙ rw z)) (λ e. omega arith)
 
     module _ (some : k ≢ 0) (size : length bytes ≡ maxNodes) where
       -- the route is what was stored
@@ -175,18 +139,16 @@ module _ (x : Net) (y : ℕ) (out : List ℕ) where
       part-all : take (maxNodes - (maxNodes - k)) laid-nodes ≡ laid-nodes
       part-all = take-all (maxNodes - (maxNodes - k)) laid-nodes (omega (arith, route-length, laid .fits))
 
-      pub answer-six : length out < k → Writes (routeOf x y out) (record { number = 6; length = 0 }) out
-      answer-six h =
-          let p = start-passed x y first in
-          refused-as 6 (route-six x y (length out) (p .0) (p .1) laid-nodes reaches (omega (arith, route-length))) (λ e. omega arith)
+      pub answer-six : length out < k → Writes (routeOf x y out) (record { number = 6; used = 0 }) out
+      answer-six h = refused-as 6 (route-six x y (length out) first laid-nodes reaches (omega (arith, route-length))) (λ e. omega arith)
 
-      -- the part of the bytes from the route's first node on
-      pub part-length : length (take (maxNodes - (maxNodes - k)) laid-nodes) ≡ k
-      part-length = rw part-all route-length
-
-      pub answer-route : k ≤ length out → (part exit : List ℕ) → part ≡ take (maxNodes - (maxNodes - k)) laid-nodes
-          → exit ≡ part ++ drop (length part) out → Writes (routeOf x y out) (record { number = 0; length = k }) exit
-      answer-route h part exit p e =
-          let q = start-passed x y first in
-          let n = route-free x y (length out) (q .0) (q .1) laid-nodes reaches (omega (arith, route-length)) in
-          rw (route-written x y out laid-nodes n reaches) (record { number = refl; length = sym route-length; output = rw (p, part-all) at e })
+      -- the part of the bytes from the route's first node on is copied
+      pub answer-route : k ≤ length out → (part exit : List ℕ) (r : ℕ) → part ≡ take (maxNodes - (maxNodes - k)) laid-nodes
+          → Wrote (copied part out) out exit r → Writes (routeOf x y out) (record { number = 0; used = r }) exit
+      answer-route h part exit r p w =
+          let n = route-free x y (length out) first laid-nodes reaches (omega (arith, route-length)) in
+          let whole : part ≡ laid-nodes = p ∙ part-all in
+          let g = wrote-all part out (omega (arith, ap length whole, route-length)) w in
+          let m : r ≡ length laid-nodes = g .used ∙ ap length whole in
+          rw (route-written x y out laid-nodes n reaches)
+          (record { number = refl; used = m; output = g .left ∙ ap₂ (λ (a : List ℕ) (i : ℕ). a ++ drop i out) whole m })

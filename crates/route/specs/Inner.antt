@@ -1,4 +1,4 @@
--- What the private functions answer.
+-- What following predecessors back leaves in the bytes.
 -- Assumes nothing.
 use mathlib.Core.Path.{_≡_}
 use mathlib.Core.Bool.{cond}
@@ -6,13 +6,8 @@ use mathlib.Core.List.{List}
 use Prim.Native.Nat.{ℕ, _-_, _≤_}
 use lib.Dec.{eqb}
 use lib.ListN.{drop}
-use Rattle.network.specs.Faults.{maxNodes, nodeFault}
-use Rattle.network.specs.Network.{Net}
-use Rattle.network.specs.Route.{Walked, broken, reached, unrouted}
-
--- the numbers tested before the walk: 3 for a node not below n, 8 for a node without a route
-unfoldable pub startNumber : Net → ℕ → ℕ
-startNumber x y = cond (nodeFault (x .nodes) y) 3 (cond (unrouted (x .row y)) 8 0)
+use Rattle.network.specs.Faults.{maxNodes}
+use Rattle.network.specs.Route.{Walked, broken, reached}
 
 -- the walk whose route of k nodes stands at the end of the bytes; 0 nodes for one that does not reach the origin
 unfoldable pub walkOf : List ℕ → ℕ → Walked

@@ -6,14 +6,12 @@ use memory::Network;
 use memory::RowRead;
 use network::Written;
 ghost use mathlib.Core.Path.{_≡_};
-ghost use mathlib.Core.List.{_++_};
-ghost use Prim.Native.Nat.{_≤_};
-ghost use lib.ListN.{length, drop};
+ghost use lib.ListN.{length};
 ghost use Rattle.network.specs.Faults.{maxNodes};
-ghost use Rattle.network.specs.Route.{walkBack, routeOf};
+ghost use Rattle.network.specs.Route.{startNumber, walkBack, routeOf};
 ghost use Rattle.network.specs.Writing.{Writes};
 ghost use Rattle.memory.specs.Layout.{view};
-ghost use Rattle.route.specs.Inner.{startNumber, Laid};
+ghost use Rattle.route.specs.Inner.{Laid};
 
 // The most nodes of a route.
 const MOST: usize = network::MAX_NODES as usize;
@@ -78,16 +76,6 @@ fn walk_back(net: &Network, node: u32, bytes: &mut [u8]) -> usize
     0
 }
 
-// Writes the bytes at the front of the output.
-fn copy(bytes: &[u8], out: &mut [u8])
-    requires { ⌜ length (now bytes) ≤ length (now out) ⌝ }
-    ensures { λ _. ⌜ now (out .exit) ≡ now (bytes .entry) ++ drop (length (now (bytes .entry))) (now (out .entry)) ⌝ }
-{
-    for i in 0..bytes.len() {
-        out[i] = bytes[i];
-    }
-}
-
 // Writes the nodes from the origin to the node into the output. Refused as 3 for a node not below n; as 8 for a node without a route; as 9
 // where the walk meets a node without a route or one already met; as 6 for an output shorter than the route.
 pub fn route(net: &Network, node: u32, out: &mut [u8]) -> Written
@@ -97,27 +85,20 @@ pub fn route(net: &Network, node: u32, out: &mut [u8]) -> Written
     if first != 0 {
         return Written {
             number: first,
-            length: 0,
+            used: 0,
         };
     }
     let mut bytes = [0u8; MOST];
     let k = walk_back(net, node, &mut bytes);
     if k == 0 {
-        return Written {
-            number: 9,
-            length: 0,
-        };
+        return Written { number: 9, used: 0 };
     }
     if out.len() < k {
-        return Written {
-            number: 6,
-            length: 0,
-        };
+        return Written { number: 6, used: 0 };
     }
     let from = MOST - k;
-    copy(&bytes[from..], out);
     Written {
         number: 0,
-        length: k,
+        used: filling::copy(&bytes[from..], out),
     }
 }

@@ -16,10 +16,10 @@ use Rattle.ancestors.proofs.Laws.{put-some}
 use Rattle.network.specs.Network.{none, root, via, Report, empty, told, Net, setPair, withHeld}
 use Rattle.network.specs.Round.{Marks, report, hear, everyArc}
 use Rattle.network.specs.Words.{reportOf}
-use Rattle.memory.specs.Layout.{words, rowOf, look, view, arcCosts, heldLabels, heldLists, rowLabels, rowLists, rowPredecessors}
+use Rattle.memory.specs.Layout.{wordCount, rowOf, look, view, arcCosts, heldLabels, heldLists, rowLabels, rowLists, rowPredecessors}
 use Rattle.memory.specs.Inner.{Node}
 use Rattle.routing.specs.Inner.{Nodes, Primed, Hears, oneMark, rowMarks, wordMarks, arcRow, arcMarks}
-use Rattle.network.proofs.Effects.{same-net}
+use Rattle.network.proofs.Effects.{same-reports}
 use Rattle.memory.proofs.Laws.{few, read-origin}
 use Rattle.memory.proofs.Store.{cost-beyond, read-held, read-relay, store-report, store-origin}
 
@@ -27,16 +27,16 @@ use Rattle.memory.proofs.Store.{cost-beyond, read-held, read-relay, store-repor
 
 pub hear-ext : (m m′ : Marks) (x : Net) → ((s r : ℕ) → m s r ≡ m′ s r) → hear m x ≡ hear m′ x
 unfolding hear
-hear-ext m m′ x e = same-net _ _ refl refl (λ s r. refl) (λ y. refl) (λ s r. λ j. cond (e s r j) (report (x .row s)) (x .held s r))
+hear-ext m m′ x e = same-reports x (λ s r. λ j. cond (e s r j) (report (x .row s)) (x .held s r))
 
 pub hear-none : (m : Marks) (x : Net) → ((s r : ℕ) → m s r ≡ false) → hear m x ≡ x
 unfolding hear
-hear-none m x e = same-net _ _ refl refl (λ s r. refl) (λ y. refl) (λ s r. λ j. cond (e s r j) (report (x .row s)) (x .held s r))
+hear-none m x e = same-reports x (λ s r. λ j. cond (e s r j) (report (x .row s)) (x .held s r))
 
 -- hearing twice is hearing what is in either set of marks
 pub hear-hear : (m m′ : Marks) (x : Net) → hear m (hear m′ x) ≡ hear (λ s r. m s r || m′ s r) x
 unfolding hear
-hear-hear m m′ x = same-net _ _ refl refl (λ s r. refl) (λ y. refl) (λ s r. go (m s r) (report (x .row s)) (m′ s r) (x .held s r))
+hear-hear m m′ x = same-reports x (λ s r. go (m s r) (report (x .row s)) (m′ s r) (x .held s r))
   where
     go : (t : Bool) (h : Report) (u : Bool) (g : Report) → cond t h (cond u h g) ≡ cond (t || u) h g
     go true h u g = refl
@@ -57,7 +57,7 @@ hear-cost m x = refl
 -- one arc
 hear-one : (x : Net) (s r : ℕ) (t : Bool) → withHeld x s r (cond t (report (x .row s)) (x .held s r)) ≡ hear (oneMark s r t) x
 unfolding withHeld hear setPair oneMark
-hear-one x s r t = same-net _ _ refl refl (λ s r. refl) (λ y. refl) (λ a b. go a b (eq-or-ne a s) (eq-or-ne b r))
+hear-one x s r t = same-reports x (λ a b. go a b (eq-or-ne a s) (eq-or-ne b r))
   where
     go : (a b : ℕ) → (a ≡ s) ⊎ (a ≢ s) → (b ≡ r) ⊎ (b ≢ r)
         → cond (eqb a s && eqb b r) (cond t (report (x .row s)) (x .held s r)) (x .held a b)
@@ -109,7 +109,7 @@ primed-set xs ys n o e p =
     }
 
 -- two stores hear one arc
-module _ (xs : List ℕ) (size : length xs ≡ words) (primed : Primed xs) (s r : ℕ) (hs : s < view xs .nodes) (hr : r < view xs .nodes)
+module _ (xs : List ℕ) (size : length xs ≡ wordCount) (primed : Primed xs) (s r : ℕ) (hs : s < view xs .nodes) (hr : r < view xs .nodes)
     (t : Bool) (d l : ℕ) where
   abbrev at : ℕ
   at = r * 32 + s
@@ -190,9 +190,9 @@ senders-step p g k a = go p (eq-or-ne a k)
     go true (inl q) = rw (eq-eqb a k q, le-ltb a k (omega arith), lt-ltb a (k + 1) (omega arith), ap g q) (or-false (g k))
     go true (inr n) = rw (ne-eqb a k n, ltb-other a k n)
 
-pub row-none : (r w a b : ℕ) → rowMarks r w 0 a b ≡ false
+pub row-unmarked : (r w a b : ℕ) → rowMarks r w 0 a b ≡ false
 unfolding rowMarks
-row-none r w a b = rw (le-ltb a 0 (omega arith)) (and-false (eqb b r))
+row-unmarked r w a b = rw (le-ltb a 0 (omega arith)) (and-false (eqb b r))
 
 pub row-step : (r w k a b : ℕ) → (oneMark k r (has w k) a b || rowMarks r w k a b) ≡ rowMarks r w (k + 1) a b
 unfolding rowMarks oneMark
@@ -263,7 +263,7 @@ module _ (xs : List ℕ) where
       go (inr h) = rw (lt-ltb b (view xs .nodes) h)
 
 -- ---- the origin's words set
-module _ (xs : List ℕ) (size : length xs ≡ words) (y l : ℕ) (e : y ≡ view xs .origin) (h : y < view xs .nodes) where
+module _ (xs : List ℕ) (size : length xs ≡ wordCount) (y l : ℕ) (e : y ≡ view xs .origin) (h : y < view xs .nodes) where
   pub primes : l ≡ own y → Hears (set (set (set xs (rowLabels + y) 0) (rowPredecessors + y) 0) (rowLists + y) l) (view xs)
   primes q =
       record {
@@ -289,7 +289,7 @@ module _ (xs : List ℕ) (size : length xs ≡ words) (y l : ℕ) (e : y ≡ vie
       o : view zs .origin ≡ view xs .origin
       o = ap (λ (x : Net). x .origin) same
 
-      long : length x₂ ≡ words
+      long : length x₂ ≡ wordCount
       long = length-set x₁ (rowPredecessors + y) 0 ∙ length-set xs (rowLabels + y) 0 ∙ size
 
       label : look zs (rowLabels + y) ≡ 0

@@ -1,6 +1,6 @@
 -- Choosing from the words of a receiver, and renewing row by row, come to the second half of a round.
 -- Assumes nothing.
-use mathlib.Core.Path.{_≡_, refl, sym, ap, ap₂, _∙_}
+use mathlib.Core.Path.{_≡_, sym, ap, ap₂, _∙_}
 use mathlib.Core.Bool.{cond, not, _&&_}
 use mathlib.Core.Logic.{_⊎_, inl, inr, _≢_}
 use mathlib.Core.List.{List}
@@ -18,10 +18,10 @@ use Rattle.network.specs.Words.{reports, costsOf, ChoiceAnswer, chosen, wordsFa
 use Rattle.network.specs.declared.Choice.{Choice}
 use Rattle.network.specs.declared.Choice.the-variants.{Refused, NoRoute, Route}
 use Rattle.network.proofs.Choosing.{choice-ext, came}
-use Rattle.memory.specs.Layout.{words, rowOf, look, view, arcCosts, heldLabels, heldLists}
+use Rattle.memory.specs.Layout.{wordCount, rowOf, look, view, arcCosts, heldLabels, heldLists}
 use Rattle.memory.specs.Inner.{Node}
 use Rattle.routing.specs.Inner.{Nodes}
-use Rattle.network.proofs.Effects.{same-net}
+use Rattle.network.proofs.Effects.{same-rows}
 use Rattle.memory.proofs.Laws.{few}
 use Rattle.memory.proofs.Store.{read-cost, read-held}
 
@@ -39,7 +39,7 @@ module _ (xs : List ℕ) (c n : ℕ) (h : c + n ≤ length xs) where
   part-at s b = getD-take (c + n - c) (drop c xs) s 0 (omega arith) ∙ getD-drop c xs s 0
 
 -- y's choice from its words is its choice in the network
-module _ (xs : List ℕ) (size : length xs ≡ words) (n y : ℕ) (is : n ≡ view xs .nodes) (below : y < view xs .nodes) where
+module _ (xs : List ℕ) (size : length xs ≡ wordCount) (n y : ℕ) (is : n ≡ view xs .nodes) (below : y < view xs .nodes) where
   room : (b : ℕ) → b ≤ heldLists → b + y * 32 + n ≤ length xs
   room b h = omega (arith, few xs)
 
@@ -91,9 +91,9 @@ module _ (n : ℕ) (cost : ℕ → ℕ) (held : ℕ → Report) (y : ℕ) (r : C
   no-route-words q = ap (λ (a : ChoiceAnswer). a .row) (sym (ap choiceMeans q) ∙ e)
 
   -- the words of a network are never refused
-  pub refused-words : r ≡ Refused → rowOf 0 0 0 ≡ row
+  pub never-refused : r ≡ Refused → rowOf 0 0 0 ≡ row
   unfolding choiceMeans
-  refused-words q =
+  never-refused q =
       let f : _≡_ {A = ℕ} 3 0 = ap (λ (a : ChoiceAnswer). a .number) (sym (ap choiceMeans q) ∙ e) in
       absurd (omega arith)
 
@@ -101,12 +101,12 @@ module _ (n : ℕ) (cost : ℕ → ℕ) (held : ℕ → Report) (y : ℕ) (r : C
 
 pub renewed-none : (x : Net) → x ≡ renewTo 0 x
 unfolding renewTo
-renewed-none x = same-net _ _ refl refl (λ s r. refl) (λ y. rw (le-ltb y 0 (omega arith))) (λ s r. refl)
+renewed-none x = same-rows x (λ y. rw (le-ltb y 0 (omega arith)))
 
 renewed-step : (x : Net) (k : ℕ) → k ≢ x .origin
     → withRow (renewTo k x) k (choice (x .nodes) (λ s. renewTo k x .cost s k) (λ s. renewTo k x .held s k) k) ≡ renewTo (k + 1) x
 unfolding renewTo withRow setAt
-renewed-step x k o = same-net _ _ refl refl (λ s r. refl) (λ y. go y (eq-or-ne y k)) (λ s r. refl)
+renewed-step x k o = same-rows x (λ y. go y (eq-or-ne y k))
   where
     new : ℕ → Row
     new y = choice (x .nodes) (λ s. x .cost s y) (λ s. x .held s y) y
@@ -119,7 +119,7 @@ renewed-step x k o = same-net _ _ refl refl (λ s r. refl) (λ y. go y (eq-or-ne
 
 pub renewed-origin : (x : Net) (k : ℕ) → k ≡ x .origin → renewTo k x ≡ renewTo (k + 1) x
 unfolding renewTo
-renewed-origin x k o = same-net _ _ refl refl (λ s r. refl) (λ y. go y (eq-or-ne y k)) (λ s r. refl)
+renewed-origin x k o = same-rows x (λ y. go y (eq-or-ne y k))
   where
     new : ℕ → Row
     new y = choice (x .nodes) (λ s. x .cost s y) (λ s. x .held s y) y

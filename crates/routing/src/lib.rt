@@ -20,7 +20,7 @@ ghost use lib.Dec.{eqb, ltb};
 ghost use Rattle.network.specs.Network.{withRow};
 ghost use Rattle.network.specs.Round.{choice, hear, renew, roundOf, fullRoundOf, everyArc};
 ghost use Rattle.network.specs.Words.{chosen, choiceMeans};
-ghost use Rattle.memory.specs.Layout.{words, view, rowOf};
+ghost use Rattle.memory.specs.Layout.{wordCount, view, rowOf};
 ghost use Rattle.memory.specs.Inner.{Node};
 ghost use Rattle.memory.specs.Answers.{Leaves};
 ghost use Rattle.routing.specs.Inner.{Nodes, Primed, Hears, oneMark, rowMarks, wordMarks, arcRow, strayRow, strayRows, idleRow, idleRows};
@@ -29,7 +29,7 @@ ghost use Rattle.routing.specs.Inner.{Nodes, Primed, Hears, oneMark, row
 
 // The origin's words become those of its row, which is not read from memory.
 fn prime(net: &mut [u32], n: usize)
-    requires { ⌜ length (now net) ≡ words ⌝ }
+    requires { ⌜ length (now net) ≡ wordCount ⌝ }
     requires { ⌜ Nodes (now net) n ⌝ }
     ensures { λ _. ⌜ Hears (now (net .exit)) (view (now (net .entry))) ⌝ }
 {
@@ -50,7 +50,7 @@ fn either(marked: bool, new: u32, old: u32) -> u32
 
 // A marked arc holds what its sender's row reports; an unmarked one keeps its report.
 fn hear_arc(net: &mut [u32], sender: usize, receiver: usize, told: bool)
-    requires { ⌜ length (now net) ≡ words ⌝ }
+    requires { ⌜ length (now net) ≡ wordCount ⌝ }
     requires { ⌜ Primed (now net) ⌝ }
     requires { ⌜ Node (now net) sender ⌝ }
     requires { ⌜ Node (now net) receiver ⌝ }
@@ -62,7 +62,7 @@ fn hear_arc(net: &mut [u32], sender: usize, receiver: usize, told: bool)
 }
 
 fn hear_row(net: &mut [u32], n: usize, receiver: usize, word: u32)
-    requires { ⌜ length (now net) ≡ words ⌝ }
+    requires { ⌜ length (now net) ≡ wordCount ⌝ }
     requires { ⌜ Primed (now net) ⌝ }
     requires { ⌜ Nodes (now net) n ⌝ }
     requires { ⌜ Node (now net) receiver ⌝ }
@@ -74,7 +74,7 @@ fn hear_row(net: &mut [u32], n: usize, receiver: usize, word: u32)
 }
 
 fn hear_marks(net: &mut [u32], n: usize, marks: &[u32])
-    requires { ⌜ length (now net) ≡ words ⌝ }
+    requires { ⌜ length (now net) ≡ wordCount ⌝ }
     requires { ⌜ Primed (now net) ⌝ }
     requires { ⌜ Nodes (now net) n ⌝ }
     requires { ⌜ length (now marks) ≡ 32 ⌝ }
@@ -86,7 +86,7 @@ fn hear_marks(net: &mut [u32], n: usize, marks: &[u32])
 }
 
 fn arc_at(net: &[u32], sender: usize, receiver: usize) -> bool
-    requires { ⌜ length (now net) ≡ words ⌝ }
+    requires { ⌜ length (now net) ≡ wordCount ⌝ }
     requires { ⌜ Node (now net) sender ⌝ }
     requires { ⌜ Node (now net) receiver ⌝ }
     ensures { λ b. ⌜ b ≡ ltb 0 (view (now (net .entry)) .cost sender receiver) ⌝ }
@@ -95,7 +95,7 @@ fn arc_at(net: &[u32], sender: usize, receiver: usize) -> bool
 }
 
 fn hear_arc_row(net: &mut [u32], n: usize, receiver: usize)
-    requires { ⌜ length (now net) ≡ words ⌝ }
+    requires { ⌜ length (now net) ≡ wordCount ⌝ }
     requires { ⌜ Primed (now net) ⌝ }
     requires { ⌜ Nodes (now net) n ⌝ }
     requires { ⌜ Node (now net) receiver ⌝ }
@@ -107,7 +107,7 @@ fn hear_arc_row(net: &mut [u32], n: usize, receiver: usize)
 }
 
 fn hear_arcs(net: &mut [u32], n: usize)
-    requires { ⌜ length (now net) ≡ words ⌝ }
+    requires { ⌜ length (now net) ≡ wordCount ⌝ }
     requires { ⌜ Primed (now net) ⌝ }
     requires { ⌜ Nodes (now net) n ⌝ }
     ensures { λ _. ⌜ Hears (now (net .exit)) (hear (everyArc (view (now (net .entry)))) (view (now (net .entry)))) ⌝ }
@@ -120,7 +120,7 @@ fn hear_arcs(net: &mut [u32], n: usize)
 // ---- new rows
 
 fn choose_row(net: &[u32], n: usize, receiver: usize) -> Choice
-    requires { ⌜ length (now net) ≡ words ⌝ }
+    requires { ⌜ length (now net) ≡ wordCount ⌝ }
     requires { ⌜ Nodes (now net) n ⌝ }
     requires { ⌜ Node (now net) receiver ⌝ }
     ensures { λ r. ⌜ choiceMeans r ≡ chosen (choice n (λ s. view (now (net .entry)) .cost s receiver) (λ s. view (now (net .entry)) .held s receiver) receiver) ⌝ }
@@ -128,7 +128,7 @@ fn choose_row(net: &[u32], n: usize, receiver: usize) -> Choice
     let c = COSTS + receiver * 32;
     let d = HELD_LABELS + receiver * 32;
     let l = HELD_LISTS + receiver * 32;
-    network::choose(
+    rule::choose(
         &net[c..c + n],
         &net[d..d + n],
         &net[l..l + n],
@@ -137,7 +137,7 @@ fn choose_row(net: &[u32], n: usize, receiver: usize) -> Choice
 }
 
 fn store_row(net: &mut [u32], node: usize, label: u32, predecessor: u32, list: u32)
-    requires { ⌜ length (now net) ≡ words ⌝ }
+    requires { ⌜ length (now net) ≡ wordCount ⌝ }
     requires { ⌜ Node (now net) node ⌝ }
     requires { ⌜ node ≢ view (now net) .origin ⌝ }
     ensures { λ _. ⌜ view (now (net .exit)) ≡ withRow (view (now (net .entry))) node (rowOf label predecessor list) ⌝ }
@@ -148,7 +148,7 @@ fn store_row(net: &mut [u32], node: usize, label: u32, predecessor: u32, list: u
 }
 
 fn renew_row(net: &mut [u32], n: usize, receiver: usize)
-    requires { ⌜ length (now net) ≡ words ⌝ }
+    requires { ⌜ length (now net) ≡ wordCount ⌝ }
     requires { ⌜ Nodes (now net) n ⌝ }
     requires { ⌜ Node (now net) receiver ⌝ }
     requires { ⌜ receiver ≢ view (now net) .origin ⌝ }
@@ -167,7 +167,7 @@ fn renew_row(net: &mut [u32], n: usize, receiver: usize)
 }
 
 fn renew_rows(net: &mut [u32], n: usize)
-    requires { ⌜ length (now net) ≡ words ⌝ }
+    requires { ⌜ length (now net) ≡ wordCount ⌝ }
     requires { ⌜ Nodes (now net) n ⌝ }
     ensures { λ _. ⌜ view (now (net .exit)) ≡ renew (view (now (net .entry))) ⌝ }
 {
@@ -193,7 +193,7 @@ fn stray_row(n: u32, receiver: u32, word: u32) -> bool
     if ancestors::listed(word, receiver) {
         return true;
     }
-    network::bit_beyond(n, word)
+    rule::bit_beyond(n, word)
 }
 
 fn or(a: bool, b: bool) -> bool
@@ -222,7 +222,7 @@ fn idle_mark(told: bool, cost: u32) -> bool
 
 // Whether a mark of the receiver has no arc.
 fn idle_row(net: &[u32], n: usize, receiver: usize, word: u32) -> bool
-    requires { ⌜ length (now net) ≡ words ⌝ }
+    requires { ⌜ length (now net) ≡ wordCount ⌝ }
     requires { ⌜ Nodes (now net) n ⌝ }
     requires { ⌜ Node (now net) receiver ⌝ }
     ensures { λ b. ⌜ b ≡ idleRow (view (now (net .entry))) receiver word n ⌝ }
@@ -239,7 +239,7 @@ fn idle_row(net: &[u32], n: usize, receiver: usize, word: u32) -> bool
 }
 
 fn idle_marks(net: &[u32], n: usize, marks: &[u32]) -> bool
-    requires { ⌜ length (now net) ≡ words ⌝ }
+    requires { ⌜ length (now net) ≡ wordCount ⌝ }
     requires { ⌜ Nodes (now net) n ⌝ }
     requires { ⌜ length (now marks) ≡ 32 ⌝ }
     ensures { λ b. ⌜ b ≡ idleRows (view (now (net .entry))) (now (marks .entry)) n ⌝ }

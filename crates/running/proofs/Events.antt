@@ -1,20 +1,23 @@
 -- What each event does, one law to a case, and the rounds that it counts for.
 -- Assumes nothing.
 use mathlib.Core.Path.{_≡_, refl, sym, ap, subst, _∙_}
-use mathlib.Core.List.{List, []}
+use mathlib.Core.List.{List, [], _∷_}
 use Prim.Native.Nat.{ℕ, _≤_}
 use native.Mathlib.Omega.{arith}
+use types.Run.{OneOf, miss}
+use denote.Enum.Declared.{tagOf}
 use Rattle.network.specs.Network.{Net, outcome}
 use Rattle.network.specs.Change.{changeOf}
 use Rattle.network.specs.Round.{roundOf, fullRoundOf}
 use Rattle.network.proofs.Effects.{outcome-number, outcome-same}
 use Rattle.memory.specs.Layout.{view}
 use Rattle.memory.specs.Answers.{Leaves}
-use Rattle.records.specs.Numbers.{words}
+use Rattle.records.specs.Numbers.{wordsIn}
 use Rattle.records.specs.Running.{eventDone, roundsIn}
 use Rattle.records.specs.declared.ArcChange.{ArcChange}
 use Rattle.records.specs.declared.ArcChange.the-variants.{Set, Removed}
 use Rattle.records.specs.declared.Event.{Event}
+use Rattle.records.proofs.Event.{the-type}
 use Rattle.records.specs.declared.Event.the-variants.{End, Header, Change, Row, Report, Round, FullRound, Refusal}
 
 -- a call that answers k and leaves the words
@@ -47,7 +50,7 @@ same-change x b d (Removed s r) = refl
 -- so that elsewhere any body will do
 pub same-body : (x : Net) (b d : List ℕ) (e : Event) → (e ≡ Round → b ≡ d) → eventDone x b e ≡ eventDone x d e
 unfolding eventDone
-same-body x b d Round h = ap (λ w. roundOf x (words 32 w)) (h refl)
+same-body x b d Round h = ap (λ w. roundOf x (wordsIn 32 w)) (h refl)
 same-body x b d (Change a) h = same-change x b d a
 same-body x b d FullRound h = refl
 same-body x b d (Refusal e p) h = refl
@@ -91,25 +94,23 @@ module _ (b : List ℕ) {xs : List ℕ} {e : Event} where
   unfolding eventDone roundsIn
   does-refusal {k} {p} q = does (Refusal k p) 0 q (still k xs) refl
 
-  -- what an image alone has
-  pub does-end : e ≡ End → Does xs b e 2 0 xs
-  unfolding eventDone roundsIn
-  does-end q = does End 0 q (still 2 xs) refl
+-- what an image alone has, by the positions of its variants
+abbrev pub imageOnly : List ℕ
+imageOnly = 0 ∷ 1 ∷ 3 ∷ 4 ∷ []
 
-  pub does-header : {n o : ℕ} → e ≡ Header n o → Does xs b e 2 0 xs
-  unfolding eventDone roundsIn
-  does-header {n} {o} q = does (Header n o) 0 q (still 2 xs) refl
-
-  pub does-row : {y d p l : ℕ} → e ≡ Row y d p l → Does xs b e 2 0 xs
-  unfolding eventDone roundsIn
-  does-row {y} {d} {p} {l} q = does (Row y d p l) 0 q (still 2 xs) refl
-
-  pub does-report : {s r d l : ℕ} → e ≡ Report s r d l → Does xs b e 2 0 xs
-  unfolding eventDone roundsIn
-  does-report {s} {r} {d} {l} q = does (Report s r d l) 0 q (still 2 xs) refl
+pub does-other : (b xs : List ℕ) (e : Event) → OneOf imageOnly (tagOf the-type e) → Does xs b e 2 0 xs
+unfolding eventDone roundsIn
+does-other b xs End h = (still 2 xs, refl)
+does-other b xs (Header n o) h = (still 2 xs, refl)
+does-other b xs (Row y d p l) h = (still 2 xs, refl)
+does-other b xs (Report s r d l) h = (still 2 xs, refl)
+does-other b xs (Change a) h = absurd (miss imageOnly 2 tt h)
+does-other b xs Round h = absurd (miss imageOnly 5 tt h)
+does-other b xs FullRound h = absurd (miss imageOnly 6 tt h)
+does-other b xs (Refusal e p) h = absurd (miss imageOnly 7 tt h)
 
 -- a round from its marks
-pub marks-round : (b : List ℕ) {xs ms ys : List ℕ} {k : ℕ} → ms ≡ words 32 b → Leaves (roundOf (view xs) ms) k xs ys
+pub marks-round : (b : List ℕ) {xs ms ys : List ℕ} {k : ℕ} → ms ≡ wordsIn 32 b → Leaves (roundOf (view xs) ms) k xs ys
     → Leaves (eventDone (view xs) b Round) k xs ys
 unfolding eventDone
 marks-round b {xs} {ms} {ys} {k} q h = subst (λ w. Leaves (roundOf (view xs) w) k xs ys) q h

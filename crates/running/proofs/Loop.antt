@@ -15,7 +15,7 @@ use Rattle.records.specs.Running.{Running, eventDone, roundsIn, afterEvent, rea
 use Rattle.records.specs.declared.Record.{Record}
 use Rattle.records.proofs.Begun.{event-stops, event-goes-on}
 use Rattle.records.proofs.Enough.{no-event, accepted-long}
-use Rattle.records.proofs.Reading.{length-within, round-within, round-body}
+use Rattle.records.proofs.Reading.{length-within, round-fits, round-body}
 use Rattle.running.specs.Inner.{marksAt, Inside, eventsFrom, Finishes}
 use Rattle.running.proofs.Events.{Does, same-body, one-round}
 
@@ -33,24 +33,24 @@ pub begin : (s : List ℕ) (x : Net) (at : ℕ) → at ≤ length s → Rest s (
 begin s x at h = record { fuel = length s; enough = omega arith; within = h; few = omega arith; same = refl }
 
 -- the record at `at`
-abbrev pub recordAt : List ℕ → ℕ → Record
-recordAt s at = recordOf asEvent at (drop at s)
+abbrev pub eventRecord : List ℕ → ℕ → Record
+eventRecord s at = recordOf asEvent at (drop at s)
 
 -- a round's record lies inside the input
-pub round-at : (s : List ℕ) (at : ℕ) (r : Record) → r ≡ recordAt s at → Inside (r .event) at s
+pub round-at : (s : List ℕ) (at : ℕ) (r : Record) → r ≡ eventRecord s at → Inside (r .event) at s
 round-at s at r e q =
-    let h = round-within asEvent at (drop at s) (ap (λ (t : Record). t .event) (sym e) ∙ q) in omega (arith, length-drop at s)
+    let h = round-fits at (drop at s) (ap (λ (t : Record). t .event) (sym e) ∙ q) in omega (arith, length-drop at s)
 
 -- the event at the front of the bytes t, whose kind byte the bytes b follow, and the events after it
 abbrev stepped : ℕ → Net → ℕ → ℕ → List ℕ → List ℕ → Running
 stepped g x rounds at b t =
     let r : Record = recordOf asEvent at t in
-    afterEvent (λ z. readEvents g z (rounds + roundsIn (r .event)) (at + r .length) (drop (r .length) t)) at rounds (eventDone x (take 128 b) (r .event))
+    afterEvent (λ z. readEvents g z (rounds + roundsIn (r .event)) (at + r .used) (drop (r .used) t)) at rounds (eventDone x (take 128 b) (r .event))
 
 -- so the definition reads
 cons-step : (g : ℕ) (x : Net) (rounds at kind : ℕ) (b : List ℕ) → readEvents (suc g) x rounds at (kind ∷ b) ≡ stepped g x rounds at b (kind ∷ b)
 unfolding readEvents
-cons-step g x rounds at kind b = ap (afterEvent _ at rounds) (same-body x (bodyOf kind b) (take 128 b) _ (round-body asEvent at kind b))
+cons-step g x rounds at kind b = ap (afterEvent _ at rounds) (same-body x (bodyOf kind b) (take 128 b) _ (round-body at kind b))
 
 -- and so at a place of the input
 step-at : (s : List ℕ) (g : ℕ) (x : Net) (rounds at : ℕ) → at < length s → readEvents (suc g) x rounds at (drop at s) ≡ stepped g x rounds at (drop (at + 1) s) (drop at s)
@@ -77,9 +77,9 @@ module _ {s : List ℕ} {o : Running} {xs : List ℕ} {rounds at : ℕ} (rest : 
       (rest .same ∙ ap (readEvents (rest .fuel) (view xs) rounds at) (drop-of-length-le s {i = at} h) ∙ no-event (rest .fuel) (view xs) rounds at)
 
   -- the event of the record r was done
-  module _ {r : Record} {k turns : ℕ} {ys : List ℕ} (h : at < length s) (read : r ≡ recordAt s at) (did : Does xs (marksAt at s) (r .event) k turns ys) where
+  module _ {r : Record} {k turns : ℕ} {ys : List ℕ} (h : at < length s) (read : r ≡ eventRecord s at) (did : Does xs (marksAt at s) (r .event) k turns ys) where
     -- what it did, by the definition of a record
-    done : Does xs (marksAt at s) (recordAt s at .event) k turns ys
+    done : Does xs (marksAt at s) (eventRecord s at .event) k turns ys
     done = subst (λ (t : Record). Does xs (marksAt at s) (t .event) k turns ys) read did
 
     -- bytes are left, so that there is an event more
@@ -97,24 +97,24 @@ module _ {s : List ℕ} {o : Running} {xs : List ℕ} {rounds at : ℕ} (rest : 
         (m .2 ∙ event-stops _ at rounds _ (λ e. n (l .number ∙ e)) ∙ (λ i. record { number = sym (l .number) i; place = at; rounds = rounds; net = sym (l .net) i }))
 
     -- accepted: the rest begins after the record
-    pub at-next : k ≡ 0 → Rest s o (view ys) (rounds + turns) (at + r .length) × (0 < r .length) × (at + r .length ≤ length s)
+    pub at-next : k ≡ 0 → Rest s o (view ys) (rounds + turns) (at + r .used) × (0 < r .used) × (at + r .used ≤ length s)
     at-next e =
         let l = done .0 in
         let z = sym (l .number) ∙ e in
         let m = one-more (rest .fuel) (rest .enough) (rest .same) in
-        let n : r .length ≡ recordAt s at .length = ap (λ (t : Record). t .length) read in
+        let n : r .used ≡ eventRecord s at .used = ap (λ (t : Record). t .used) read in
         let a = accepted-long (view xs) (marksAt at s) at (drop at s) z in
         let b = length-within asEvent at (drop at s) in
         let d = length-drop at s in
-        let c : at + r .length ≤ length s = omega arith in (
+        let c : at + r .used ≤ length s = omega arith in (
           record {
             fuel = m .0;
             enough = omega (arith, m .1, rest .enough);
             within = c;
-            few = omega (arith, rest .few, one-round (recordAt s at .event), done .1);
+            few = omega (arith, rest .few, one-round (eventRecord s at .event), done .1);
             same = m .2 ∙ event-goes-on _ at rounds _ z
                 ∙ (λ i. readEvents (m .0) (sym (l .net) i) (rounds + sym (done .1) i) (at + sym n i) (drop (sym n i) (drop at s)))
-                ∙ ap (readEvents (m .0) (view ys) (rounds + turns) (at + r .length)) (drop-drop (r .length) at s);
+                ∙ ap (readEvents (m .0) (view ys) (rounds + turns) (at + r .used)) (drop-drop (r .used) at s);
           },
           omega arith,
           c,

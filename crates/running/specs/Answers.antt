@@ -6,9 +6,8 @@ use Prim.Native.Nat.{ℕ}
 use lib.Dec.{eqb}
 use Rattle.memory.specs.Layout.{view}
 use Rattle.records.specs.Opening.{openOf}
-use Rattle.records.specs.Running.{Running, runOf}
+use Rattle.records.specs.Running.{runOf}
 use Rattle.running.specs.declared.Ended.{Ended}
-use Rattle.running.specs.declared.Ran.{Ran}
 
 -- the run of the input s ends with the answer e and the network of the words
 pub record Ends (s : List ℕ) (e : Ended) (words : List ℕ) : Type 0 where
@@ -17,10 +16,3 @@ pub record Ends (s : List ℕ) (e : Ended) (words : List ℕ) : Type 0 where
   pub rounds : e .rounds ≡ runOf s .rounds
   pub opened : e .opened ≡ eqb (openOf s .number) 0
   pub net : view words ≡ runOf s .net
-
--- the answer r gives number, place, rounds and network of the run o
-pub record Runs (o : Running) (r : Ran) : Type 0 where
-  pub number : r .number ≡ o .number
-  pub place : r .place ≡ o .place
-  pub rounds : r .rounds ≡ o .rounds
-  pub net : view (r .net) ≡ o .net

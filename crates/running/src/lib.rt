@@ -6,43 +6,25 @@ use records::ArcChange;
 use records::Event;
 ghost use mathlib.Core.Path.{_≡_};
 ghost use mathlib.Core.List.{[]};
-ghost use Prim.Native.Nat.{_+_, _≤_, _<_};
+ghost use Prim.Native.Nat.{_≤_};
 ghost use lib.ListN.{length};
-ghost use Rattle.records.specs.Numbers.{num32, words};
-ghost use Rattle.records.specs.Running.{eventDone, roundsIn, runOf};
+ghost use Rattle.records.specs.Numbers.{wordsIn};
+ghost use Rattle.records.specs.Running.{eventDone, roundsIn};
 ghost use Rattle.memory.specs.Layout.{view};
 ghost use Rattle.memory.specs.Answers.{Leaves};
-ghost use Rattle.running.specs.Answers.{Ends, Runs};
+ghost use Rattle.running.specs.Answers.{Ends};
 ghost use Rattle.running.specs.Inner.{marksAt, Inside, eventsFrom, Finishes};
 
 // ---- marks
 
-// A byte as a word.
-fn wide(x: u8) -> u32
-    ensures { λ r. ⌜ (r ≡ x) × (r < 256) ⌝ }
-{
-    x as u32
-}
-
-// The number in four bytes, most significant first.
-fn word_at(body: &[u8], i: usize) -> u32
-    requires { ⌜ i + 3 < length (now body) ⌝ }
-    ensures { λ r. ⌜ r ≡ num32 (now (body .entry)) i ⌝ }
-{
-    let high = wide(body[i]) * 256 + wide(body[i + 1]);
-    let low = wide(body[i + 2]) * 256 + wide(body[i + 3]);
-    high * 65536 + low
-}
-
 // The marks of a round from its body.
 fn marks_of(body: &[u8]) -> [u32; 32]
-    requires { ⌜ 128 ≤ length (now body) ⌝ }
-    ensures { λ r. ⌜ r ≡ words 32 (now (body .entry)) ⌝ }
+    ensures { λ r. ⌜ r ≡ wordsIn 32 (now (body .entry)) ⌝ }
 {
     let mut marks = [0u32; 32];
     let mut i: usize = 0;
     while i < 32 {
-        marks[i] = word_at(body, 4 * i);
+        marks[i] = reading::word(body, 4 * i);
         i = i + 1;
     }
     marks
@@ -52,7 +34,6 @@ fn marks_of(body: &[u8]) -> [u32; 32]
 
 // A round with the marks of its body.
 fn mark_round(net: &mut Network, body: &[u8]) -> u8
-    requires { ⌜ 128 ≤ length (now body) ⌝ }
     ensures { λ k. ⌜ Leaves (eventDone (view (now (net .entry))) (now (body .entry)) Event.Round) k (now (net .entry)) (now (net .exit)) ⌝ }
 {
     let marks = marks_of(body);
@@ -98,32 +79,7 @@ fn do_event(net: &mut Network, input: &[u8], at: usize, event: Event) -> Done
             Done { number, rounds: 0 }
         }
         Event::Refusal { number, place: _ } => Done { number, rounds: 0 },
-        Event::End => Done {
-            number: 2,
-            rounds: 0,
-        },
-        Event::Header {
-            nodes: _,
-            origin: _,
-        } => Done {
-            number: 2,
-            rounds: 0,
-        },
-        Event::Row {
-            node: _,
-            label: _,
-            predecessor: _,
-            list: _,
-        } => Done {
-            number: 2,
-            rounds: 0,
-        },
-        Event::Report {
-            sender: _,
-            receiver: _,
-            label: _,
-            list: _,
-        } => Done {
+        _ => Done {
             number: 2,
             rounds: 0,
         },
@@ -156,7 +112,7 @@ fn run_events(net: &mut Network, input: &[u8], start: usize) -> Finish
             };
         }
         rounds = rounds + done.rounds;
-        at = at + record.length;
+        at = at + record.used;
     }
     Finish {
         number: 0,
@@ -171,14 +127,6 @@ pub struct Ended {
     pub place: usize,
     pub rounds: usize,
     pub opened: bool,
-}
-
-// The same with the network by value.
-pub struct Ran {
-    pub number: u8,
-    pub place: usize,
-    pub rounds: usize,
-    pub net: Network,
 }
 
 // Opens the image into lent words and does the events after it. With its image refused, answers as opening does, with 0 rounds.
@@ -200,19 +148,5 @@ pub fn run_into(net: &mut Network, input: &[u8]) -> Ended
         place: end.place,
         rounds: end.rounds,
         opened: true,
-    }
-}
-
-// A run, and its network by value.
-pub fn run(input: &[u8]) -> Ran
-    ensures { λ r. ⌜ Runs (runOf (now (input .entry))) r ⌝ }
-{
-    let mut net = [0u32; memory::WORDS];
-    let end = run_into(&mut net, input);
-    Ran {
-        number: end.number,
-        place: end.place,
-        rounds: end.rounds,
-        net: net,
     }
 }

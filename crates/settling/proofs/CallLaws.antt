@@ -11,7 +11,7 @@ use Rattle.network.specs.Network.{Net, outcome, Within}
 use Rattle.network.specs.Round.{Marks, marked, everyArc, roundNumber, round as roundWith}
 use Rattle.network.specs.Change.{changed, changeNumber, gradeCost, gradeNumber}
 use Rattle.network.specs.Route.{routeOf}
-use Rattle.network.proofs.Effects.{outcome-number, outcome-same, number-of, net-accepted, net-refused, change-outcome, grade-outcome, round-outcome, full-round-outcome, round-effect, change-effect}
+use Rattle.network.proofs.Effects.{frame, Stays, nodes-stay, outcome-number, outcome-same, number-of, net-accepted, net-refused, change-outcome, grade-outcome, round-outcome, full-round-outcome, round-effect, change-effect}
 use Rattle.network.proofs.Keeping.{change-within, grade-within, round-within, full-round-within}
 use Rattle.records.specs.Image.{imageOf}
 use Rattle.settling.specs.Calls.{Call, change, grade, round, fullRound, route, writeImage, reads, called, accepted, after, alters, marksThen}
@@ -74,23 +74,23 @@ pub full-accepted : (x : Net) → accepted x fullRound ≡ true
 unfolding accepted number
 full-accepted x = eq-eqb (called x fullRound .number) 0 (called-number x fullRound)
 
--- an accepted call leaves the nodes
-next-nodes : (x : Net) (c : Call) → next x c .nodes ≡ x .nodes
+-- an accepted call leaves the frame
+next-stays : (x : Net) (c : Call) → Stays x (next x c)
 unfolding next
-next-nodes x (change s r c) = change-effect x s r c .nodes
-next-nodes x (grade s r g) = change-effect x s r (gradeCost g) .nodes
-next-nodes x (round ms) = round-effect (marked ms) x .nodes
-next-nodes x fullRound = round-effect (everyArc x) x .nodes
-next-nodes x (route y out) = refl
-next-nodes x (writeImage out) = refl
+next-stays x (change s r c) = change-effect x s r c .stays
+next-stays x (grade s r g) = change-effect x s r (gradeCost g) .stays
+next-stays x (round ms) = round-effect (marked ms) x .stays
+next-stays x fullRound = round-effect (everyArc x) x .stays
+next-stays x (route y out) = refl
+next-stays x (writeImage out) = refl
 
--- every call leaves the nodes
-called-nodes : (x : Net) (c : Call) → called x c .net .nodes ≡ x .nodes
-called-nodes x c = go (bool-cases (accepted x c))
+-- every call leaves the frame
+called-stays : (x : Net) (c : Call) → Stays x (called x c .net)
+called-stays x c = go (bool-cases (accepted x c))
   where
-    go : (accepted x c ≡ true) ⊎ (accepted x c ≡ false) → called x c .net .nodes ≡ x .nodes
-    go (inl e) = ap (λ (z : Net). z .nodes) (called-accepted x c e) ∙ next-nodes x c
-    go (inr e) = ap (λ (z : Net). z .nodes) (called-refused x c e)
+    go : (accepted x c ≡ true) ⊎ (accepted x c ≡ false) → Stays x (called x c .net)
+    go (inl e) = ap frame (called-accepted x c e) ∙ next-stays x c
+    go (inr e) = ap frame (called-refused x c e)
 
 -- every call keeps a network within limits
 pub called-within : (x : Net) → Within x → (c : Call) → Within (called x c .net)
@@ -106,7 +106,7 @@ called-within x w (writeImage out) = w
 pub after-nodes : (x : Net) (cs : List Call) → after x cs .nodes ≡ x .nodes
 unfolding after
 after-nodes x [] = refl
-after-nodes x (c ∷ cs) = after-nodes (called x c .net) cs ∙ called-nodes x c
+after-nodes x (c ∷ cs) = after-nodes (called x c .net) cs ∙ nodes-stay (called-stays x c)
 
 -- two lists of calls, one after the other
 pub after-append : (x : Net) (cs ds : List Call) → after x (cs ++ ds) ≡ after (after x cs) ds

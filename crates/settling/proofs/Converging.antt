@@ -5,7 +5,7 @@ use mathlib.Core.Logic.{_⊎_, inl, inr, _≢_}
 use Prim.Native.Nat.{ℕ, suc, _+_, _*_, _-_, _<_, _≤_}
 use native.Mathlib.Omega.{arith}
 use native.Mathlib.Nat.{mul-le-mul-right}
-use Rattle.ancestors.proofs.Cases.{eq-or-ne}
+use Rattle.ancestors.proofs.Cases.{eq-or-ne, clash}
 use Rattle.network.specs.Network.{Row, none, root, via, told}
 use Rattle.network.specs.Round.{report}
 use Rattle.settling.specs.Settled.{Walk, Settled, fixed, unreached, Real, no-label, origin-label, relay-label}
@@ -60,7 +60,7 @@ module _ (run : Run) where
         less = omega (arith, run .ends .origin-node, relay)
 
         go : (w : Row) → row T y ≡ w → Settled cost origin y w
-        go none e = unreached (λ d walk. let x = reached-row y d relay b walk in let z : _≡_ {A = ℕ} 0 1 = cc (x .3) in omega arith)
+        go none e = unreached (λ d walk. let x = reached-row y d relay b walk in clash (cc (x .3)))
         go (root l) e = absurd (no-root run T y l (omega (arith, mul-le-mul-right W one)) (omega arith) b relay e)
         go (via d p l) e =
             let real = genuine run T y d l (omega (arith, mul-le-mul-right W less)) (omega arith) b (via-told e) in

@@ -30,8 +30,8 @@ arcs =
     changeOf (changeOf b 3 0 4 .net) 3 2 1 .net
 
 -- and with two wrong rows, each the other's predecessor, and a wrong report of the origin
-unfoldable pub field : Net
-field = placeReportOf (placeRowOf (placeRowOf arcs 1 3 2 6 .net) 2 2 1 6 .net) 0 3 9 1 .net
+unfoldable pub exampleNet : Net
+exampleNet = placeReportOf (placeRowOf (placeRowOf arcs 1 3 2 6 .net) 2 2 1 6 .net) 0 3 9 1 .net
 
 -- the arc from 0 to 1 goes; a cost above 65,535 is refused
 unfoldable pub before : List Call
@@ -51,8 +51,8 @@ stretch =
     round half ∷ round rest ∷ round (0 ∷ 1 ∷ replicate 30 0) ∷ round half ∷ fullRound ∷ round half ∷ change 1 1 5 ∷ round rest ∷ fullRound ∷
     round (4 ∷ []) ∷ round rest ∷ route 1 [] ∷ round half ∷ grade 1 2 16 ∷ round rest ∷ writeImage [] ∷ round half ∷ round rest ∷ route 3 (0 ∷ 0 ∷ []) ∷ []
 
-pub example-within : Within field
-unfolding field
+pub example-within : Within exampleNet
+unfolding exampleNet
 example-within =
     let a = change-within _ (change-within _ (fresh-within 4 0) 0 1 1) 0 3 4 in
     let b = change-within _ (change-within _ (change-within _ a 1 2 1) 2 1 1) 2 3 1 in
@@ -61,35 +61,35 @@ example-within =
 
 -- what is computed of the field and its calls
 record Facts : Type 0 where
-  still : still (after field before) stretch ≡ true
-  heard : missed (after field before .nodes) 2 (after field before .cost) (rounds (after field before) stretch) ≡ false
-  count : roundsHeard field before stretch ≡ 2 * (field .nodes - 1) * 2
+  still : still (after exampleNet before) stretch ≡ true
+  heard : missed (after exampleNet before .nodes) 2 (after exampleNet before .cost) (rounds (after exampleNet before) stretch) ≡ false
+  count : roundsHeard exampleNet before stretch ≡ 2 * (exampleNet .nodes - 1) * 2
   -- node 1's route goes by 3 and 2
-  row-one : atEnd field before stretch .row 1 ≡ via 6 2 15
+  row-one : atEnd exampleNet before stretch .row 1 ≡ via 6 2 15
 
 facts : Facts
-unfolding field before stretch has put sizeFault nodeFault pairFault costFault gradeFault originFault rowLabelFault reportLabelFault
+unfolding exampleNet before stretch has put sizeFault nodeFault pairFault costFault gradeFault originFault rowLabelFault reportLabelFault
     predecessorFault listFault arcFault rowFault reportFault setAt setPair withCost withRow withHeld outcome freshNet freshNumber
     freshOf placeRowNumber placeRowOf placeReportNumber placeReportOf report hear offer against winner listOf rowBy choice renewTo
     renew marked some strayMark idleMark roundNumber roundOf everyArc fullRoundOf playRound changed changeNumber changeOf gradeCost
     gradeNumber gradeOf called accepted after marksThen rounds still unheard missed
 facts = record { still = refl; heard = refl; count = refl; row-one = refl }
 
-pub supposed-example : Supposed field before stretch 2
-supposed-example = supposed-by field before stretch 2 (omega arith) (after-within field example-within before) (facts .still) (facts .heard)
+pub supposed-example : Supposed exampleNet before stretch 2
+supposed-example = supposed-by exampleNet before stretch 2 (omega arith) (after-within exampleNet example-within before) (facts .still) (facts .heard)
 
-pub example-rounds : 2 * (field .nodes - 1) * 2 ≤ roundsHeard field before stretch
+pub example-rounds : 2 * (exampleNet .nodes - 1) * 2 ≤ roundsHeard exampleNet before stretch
 example-rounds = omega (arith, facts .count)
 
 -- its image opens to it
-pub example-answered : Answered field
+pub example-answered : Answered exampleNet
 example-answered =
-    let i = image field in
-    by-open (i ++ []) (length i) (rw (append-nil i) (image-bytes field)) (reopening field example-within [])
+    let i = image exampleNet in
+    by-open (i ++ []) (length i) (rw (append-nil i) (image-bytes exampleNet)) (reopening exampleNet example-within [])
 
 -- demand 3 then says that every row is settled, here with label 6 at node 1
-pub example-settled : AllSettled (atEnd field before stretch)
-example-settled = demand3 field example-answered before stretch 2 supposed-example .settled example-rounds
+pub example-settled : AllSettled (atEnd exampleNet before stretch)
+example-settled = demand3 exampleNet example-answered before stretch 2 supposed-example .settled example-rounds
 
-pub example-row : atEnd field before stretch .row 1 ≡ via 6 2 15
+pub example-row : atEnd exampleNet before stretch .row 1 ≡ via 6 2 15
 example-row = facts .row-one

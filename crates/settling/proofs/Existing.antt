@@ -9,11 +9,11 @@ use Rattle.ancestors.specs.Ancestors.{put, own}
 use Rattle.ancestors.proofs.Cases.{eq-or-ne, any-below, first}
 use Rattle.network.specs.Network.{Row, root, via}
 use Rattle.settling.specs.Settled.{Walk, here, along, Least, Tight, Predecessor, Settled}
-use Rattle.settling.proofs.Routes.{Ends, least-part}
+use Rattle.settling.proofs.Routes.{ArcEnds, least-part}
 use Rattle.settling.proofs.Unique.{least-once}
 use Rattle.settling.proofs.SettledBy.{SettledBy, at-start, next, by-least, by-relay, by-settled}
 
-module _ (n origin : ℕ) (cost : ℕ → ℕ → ℕ) (ends : Ends n origin cost) where
+module _ (n origin : ℕ) (cost : ℕ → ℕ → ℕ) (ends : ArcEnds n origin cost) where
   -- s is the last sender of a walk of cost d to y
   abbrev Last : ℕ → ℕ → ℕ → Type 0
   Last y d s = (0 < cost s y) × (cost s y ≤ d) × Walk cost origin s (d - cost s y)

@@ -12,7 +12,7 @@ use Rattle.network.specs.Round.{report, hear, offer, against, winner, listOf, r
 use Rattle.network.specs.Change.{changed, changeNumber, changeOf}
 use Rattle.network.proofs.Distinct.{none-via}
 use Rattle.settling.specs.Calls.{Call, change, grade, round, fullRound, route, writeImage, called, after}
-use Rattle.settling.specs.FalseRelays.{inTurn, repeated, calledBy, afterBy, field, FalseRelaysDiffer}
+use Rattle.settling.specs.FalseRelays.{inTurn, repeated, calledBy, afterBy, fieldNet, FalseRelaysDiffer}
 
 -- with document 01's round these are its calls
 called-right : (x : Net) (c : Call) → calledBy playRound x c ≡ called x c .net
@@ -39,7 +39,7 @@ same-label : {d p l e q k : ℕ} → via d p l ≡ via e q k → d ≡ e
 same-label h = cc
 
 pub false-relays-differ : FalseRelaysDiffer
-unfolding field afterBy calledBy inTurn repeated has put sizeFault pairFault costFault setAt setPair withCost withRow withHeld outcome
+unfolding fieldNet afterBy calledBy inTurn repeated has put sizeFault pairFault costFault setAt setPair withCost withRow withHeld outcome
     freshNet freshNumber freshOf report hear offer against winner listOf rowBy choice renew marked some strayMark idleMark
     roundNumber roundOf everyArc fullRoundOf playRound changed changeNumber changeOf called after
 false-relays-differ =

@@ -9,13 +9,13 @@ use lib.Dec.{ltb}
 use borrow.Author.Tests.{ltb-true}
 use Rattle.ancestors.specs.Ancestors.{has, put}
 use Rattle.ancestors.proofs.Cases.{and-both}
-use Rattle.network.specs.Faults.{sizeFault, nodeFault, pairFault, costFault, gradeFault}
+use Rattle.network.specs.Faults.{sizeFault, nodeFault, pairFault, costFault, gradeFault, firstOf}
 use Rattle.network.specs.Network.{Net, setAt, setPair, withCost, withRow, withHeld, outcome, freshNet, freshNumber, freshOf}
 use Rattle.network.specs.Round.{report, hear, offer, against, winner, listOf, rowBy, choice, renewTo, renew, some, everyArc, fullRoundOf, round as playRound}
 use Rattle.network.specs.Change.{changed, changeNumber, changeOf, gradeCost, gradeNumber, gradeOf}
 use Rattle.records.specs.Numbers.{Bytes, num8, num16, num32}
 use Rattle.records.specs.Records.{bodyLength, bodyOf, arcChange, eventOf, allowed, bodied, recordOf}
-use Rattle.records.specs.Opening.{arcRank, orderNumber, firstOf, arcNumber, judged, placed, readRecords, started, openOf}
+use Rattle.records.specs.Opening.{arcRank, orderNumber, arcNumber, judged, placed, readRecords, started, headed, openOf}
 use Rattle.records.specs.Running.{runOf}
 use Rattle.records.proofs.Opened.{open-within}
 use Rattle.settling.specs.Calls.{Call, change, fullRound, called, accepted, after, marksThen, rounds, AllSettled, roundsHeard}
@@ -61,7 +61,7 @@ facts : Facts
 unfolding has put sizeFault nodeFault pairFault costFault gradeFault setAt setPair withCost withRow withHeld outcome freshNet freshNumber freshOf
     report hear offer against winner listOf rowBy choice renewTo renew some everyArc fullRoundOf playRound changed changeNumber changeOf gradeCost
     gradeNumber gradeOf num8 num16 num32 bodyLength bodyOf arcChange eventOf allowed bodied recordOf arcRank orderNumber firstOf arcNumber judged
-    placed readRecords started openOf called accepted after marksThen rounds eventCall eventsIn runEvents callsOf still unheard missed small
+    placed readRecords started headed openOf called accepted after marksThen rounds eventCall eventsIn runEvents callsOf still unheard missed small
 facts = record { bytes = refl; opened = refl; calls = refl; still = refl; heard = refl; nodes = refl; count = refl }
 
 -- with every arc heard in every round, six rounds are 2 (n - 1): every row of the network that the run answers is settled

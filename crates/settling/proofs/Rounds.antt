@@ -10,12 +10,12 @@ use Rattle.ancestors.proofs.Cases.{eq-or-ne, bool-cases, never}
 use Rattle.network.specs.Faults.{maxCost, maxLabel}
 use Rattle.network.specs.Network.{root, via, told, Net, Within}
 use Rattle.network.specs.Round.{Marks, report, choice}
-use Rattle.network.proofs.Effects.{RoundEffect}
+use Rattle.network.proofs.Effects.{Stays, nodes-stay, origin-stay, RoundEffect}
 use Rattle.network.proofs.Limits.{within-size, within-arc, within-row, within-report}
 use Rattle.settling.specs.Settled.{Route, Settled, Real}
 use Rattle.settling.specs.Calls.{AllReal, AllSettled}
 use Rattle.network.proofs.Reports.{told-row}
-use Rattle.settling.proofs.Routes.{Ends, route-short, route-cost}
+use Rattle.settling.proofs.Routes.{ArcEnds, route-short, route-cost}
 use Rattle.settling.proofs.Run.{Run}
 use Rattle.settling.proofs.Converging.{all-real, all-settled}
 
@@ -26,7 +26,7 @@ pub record Rounds (marks : ℕ → Marks) (net : ℕ → Net) (T : ℕ) : Type 0
 
 module _ (x : Net) (within : Within x) where
   -- the ends of arcs are nodes
-  within-ends : Ends (x .nodes) (x .origin) (x .cost)
+  within-ends : ArcEnds (x .nodes) (x .origin) (x .cost)
   within-ends =
       record {
         origin-node = within-size x within .2;
@@ -49,14 +49,16 @@ module _ (x : Net) (within : Within x) where
       go (inr e) = within-row x within y d (e .0) l (e .1) .own
 
 module _ (marks : ℕ → Marks) (net : ℕ → Net) (T : ℕ) (rounds : Rounds marks net T) where
-  -- rounds leave nodes, origin and costs
+  -- rounds leave the frame and the costs
+  same-frame : (t : ℕ) → t ≤ T → Stays (net 0) (net t)
+  same-frame zero b = refl
+  same-frame (suc t) b = rounds .effect t (omega arith) .stays ∙ same-frame t (omega arith)
+
   same-nodes : (t : ℕ) → t ≤ T → net t .nodes ≡ net 0 .nodes
-  same-nodes zero b = refl
-  same-nodes (suc t) b = rounds .effect t (omega arith) .nodes ∙ same-nodes t (omega arith)
+  same-nodes t b = nodes-stay (same-frame t b)
 
   same-origin : (t : ℕ) → t ≤ T → net t .origin ≡ net 0 .origin
-  same-origin zero b = refl
-  same-origin (suc t) b = rounds .effect t (omega arith) .origin ∙ same-origin t (omega arith)
+  same-origin t b = origin-stay (same-frame t b)
 
   same-cost : (t : ℕ) → t ≤ T → net t .cost ≡ net 0 .cost
   same-cost zero b = refl

@@ -13,7 +13,7 @@ use Rattle.ancestors.proofs.Laws.{has-put-same, has-put-other, has-kept, has-ow
 use Rattle.settling.specs.Settled.{Walk, here, along, Route, start, onward, Least}
 
 -- the origin and the ends of every arc are nodes, below n
-pub record Ends (n origin : ℕ) (cost : ℕ → ℕ → ℕ) : Type 0 where
+pub record ArcEnds (n origin : ℕ) (cost : ℕ → ℕ → ℕ) : Type 0 where
   pub origin-node : origin < n
   pub sender-node : (s y : ℕ) → 0 < cost s y → s < n
   pub receiver-node : (s y : ℕ) → 0 < cost s y → y < n
@@ -60,7 +60,7 @@ module _ (cost : ℕ → ℕ → ℕ) (origin : ℕ) where
   route-cost c low start = omega arith
   route-cost c low (onward {s = s} {y = y} r arc apart) = omega (arith, route-cost c low r, low s y)
 
-  module _ (n : ℕ) (ends : Ends n origin cost) where
+  module _ (n : ℕ) (ends : ArcEnds n origin cost) where
     -- a route of k arcs lists more than k nodes
     route-nodes : {y k d l : ℕ} → Route cost origin y k d l → k < count (has l) n
     route-nodes start =

@@ -12,7 +12,7 @@ use Rattle.network.specs.Round.{report, choice}
 use Rattle.network.proofs.Choosing.{Made, Came, came, choice-no-root}
 use Rattle.settling.specs.Settled.{Route}
 use Rattle.network.proofs.Reports.{told-row}
-use Rattle.settling.proofs.Routes.{Ends}
+use Rattle.settling.proofs.Routes.{ArcEnds}
 
 -- the facts of a run that its theorems use
 pub record Run : Type 0 where
@@ -27,7 +27,7 @@ pub record Run : Type 0 where
   pub row : ℕ → ℕ → Row
   pub held : ℕ → ℕ → ℕ → Report
   -- the origin and the ends of arcs are nodes
-  pub ends : Ends n origin cost
+  pub ends : ArcEnds n origin cost
   -- a real route's cost is at most the largest label
   pub fits : (y k d l : ℕ) → Route cost origin y k d l → d ≤ maxLabel
   -- the origin's row is fixed

@@ -4,7 +4,7 @@ use mathlib.Core.Path.{_≡_, refl, sym, ap, subst, _∙_}
 use mathlib.Core.Bool.{Bool, true, false, cond}
 use mathlib.Core.List.{List, [], _∷_}
 use mathlib.Core.Logic.{_⊎_, inl, inr, _≢_}
-use Prim.Native.Nat.{ℕ, zero, suc, _+_, _<_, _≤_}
+use Prim.Native.Nat.{ℕ, zero, suc, _+_, _≤_}
 use native.Mathlib.Omega.{arith}
 use native.Mathlib.Nat.{zero-add}
 use lib.Dec.{ltb}
@@ -23,7 +23,7 @@ use Rattle.records.specs.Running.{eventDone, roundsIn, Running, afterEvent, rea
 use Rattle.records.specs.declared.Event.{Event}
 use Rattle.records.specs.declared.Event.the-variants.{Change, Refusal}
 use Rattle.records.specs.declared.Record.{Record}
-use Rattle.records.proofs.Reading.{wholeRecord, kind-small, by-kind, clash}
+use Rattle.records.proofs.Reading.{wholeRecord, _&_, by-allowed}
 use Rattle.records.proofs.Grading.{change-record, grade-record}
 use Rattle.records.proofs.Begun.{run-refused, run-opened, event-stops, event-goes-on}
 use Rattle.records.proofs.Opened.{open-within}
@@ -45,13 +45,14 @@ unfolding gradeChange roundsIn
 no-round at s r g =
     cond-by (λ (e : Event). 0 ≡ roundsIn e) (gradeFault g) (Refusal 3 at) (Change (arcChange s r (gradeCost g))) (λ _. refl) (λ _. refl)
 
-same-done : (x : Net) (at : ℕ) (b : List ℕ) (k : ℕ) → k < 8 → allowed asEvent k ≡ true → SameDone x b (eventOf at k b) (eventCall k b)
+same-done : (x : Net) (at : ℕ) (b : List ℕ) (k : ℕ) → allowed asEvent k ≡ true → SameDone x b (eventOf at k b) (eventCall k b)
 unfolding allowed eventOf eventCall eventDone called roundsIn marksThen accepted
 same-done x at b =
-    by-kind (λ k. allowed asEvent k ≡ true → SameDone x b (eventOf at k b) (eventCall k b)) clash clash
-    (λ _. record { done = change-record x b _ _ _; counted = λ _. refl }) clash clash
-    (λ _. record { done = refl; counted = λ z. rw (eq-eqb _ 0 z) }) (λ _. record { done = refl; counted = λ _. refl })
-    (λ _. record { done = grade-record x b at _ _ _; counted = λ _. no-round at _ _ _ })
+    by-allowed asEvent (λ k. SameDone x b (eventOf at k b) (eventCall k b))
+    (tt & record { done = change-record x b _ _ _; counted = λ _. refl }
+    & record { done = refl; counted = λ z. rw (eq-eqb _ 0 z) }
+    & record { done = refl; counted = λ _. refl }
+    & record { done = grade-record x b at _ _ _; counted = λ _. no-round at _ _ _ })
 
 -- the marks of a call are put before the others
 marks-long : (x : Net) (c : Call) (ms : List Marks) → length (marksThen x c ms) ≡ length (marksThen x c []) + length ms
@@ -157,7 +158,7 @@ events-as (suc k) x n at (kind ∷ b) = go (allowed asEvent kind) (ltb (length b
   where
     step : Record → Running
     step r =
-        afterEvent (λ z. readEvents k z (n + roundsIn (r .event)) (at + r .length) (drop (r .length) (kind ∷ b))) at n
+        afterEvent (λ z. readEvents k z (n + roundsIn (r .event)) (at + r .used) (drop (r .used) (kind ∷ b))) at n
         (eventDone x (bodyOf kind b) (r .event))
 
     rest : Events
@@ -171,7 +172,7 @@ events-as (suc k) x n at (kind ∷ b) = go (allowed asEvent kind) (ltb (length b
     go true true p again = by-malformed _ x (bodyOf kind b) n at 1 (λ z. omega arith)
     go true false p again =
         by-call _ x (bodyOf kind b) n at (eventOf at kind (bodyOf kind b)) (eventCall kind (bodyOf kind b)) rest
-        (same-done x at (bodyOf kind b) kind (kind-small asEvent kind p) p) (λ z. again z _ _ _)
+        (same-done x at (bodyOf kind b) kind p) (λ z. again z _ _ _)
 
 -- the number of events at most never decides: with as many as there are bytes, more give the same
 no-bytes : (k at : ℕ) → eventsIn k at [] ≡ ended

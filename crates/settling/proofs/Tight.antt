@@ -19,27 +19,27 @@ use Rattle.network.proofs.Keeping.{fresh-within, change-within, place-report-wi
 use Rattle.settling.specs.Settled.{Real, relay-label}
 use Rattle.settling.specs.Calls.{Call, round, called, accepted, after, marksThen, rounds, AllReal, atEnd, roundsHeard}
 use Rattle.settling.specs.Bounds.{TooFew, NoSooner}
-use Rattle.settling.proofs.Routes.{Ends, route-cost, route-short}
+use Rattle.settling.proofs.Routes.{ArcEnds, route-cost, route-short}
 use Rattle.settling.proofs.CallLaws.{after-within}
 use Rattle.settling.proofs.Computed.{still, unheard, missed, supposed-by}
 
 -- where every arc costs at most c, no real route costs more than (n - 1) c
-pub too-dear : (n c : ℕ) (cost : ℕ → ℕ → ℕ) (origin y d p l : ℕ) → Ends n origin cost → ((s r : ℕ) → cost s r ≤ c) → (n - 1) * c < d →
+pub too-dear : (n c : ℕ) (cost : ℕ → ℕ → ℕ) (origin y d p l : ℕ) → ArcEnds n origin cost → ((s r : ℕ) → cost s r ≤ c) → (n - 1) * c < d →
     Real cost origin y (via d p l) → ⊥
 too-dear n c cost origin y d p l ends low h (relay-label {k = k} r) =
     let few : k ≤ n - 1 = omega (arith, route-short cost origin n ends r) in
     omega (arith, route-cost cost origin c low r, mul-le-mul-right c few)
 
 -- the origin 0, arcs from 0 to 1 and from 1 to 2 of cost 1, no routes, and a wrong report held over the first arc: label 7
-unfoldable pub field : Net
-field = placeReportOf (changeOf (changeOf (freshOf 3 0 .net) 0 1 1 .net) 1 2 1 .net) 0 1 7 1 .net
+unfoldable pub chainNet : Net
+chainNet = placeReportOf (changeOf (changeOf (freshOf 3 0 .net) 0 1 1 .net) 1 2 1 .net) 0 1 7 1 .net
 
 -- three rounds: only the second marks arcs, and it marks both
 unfoldable pub stretch : List Call
 stretch = round (replicate 32 0) ∷ round (0 ∷ 1 ∷ 2 ∷ replicate 29 0) ∷ round (replicate 32 0) ∷ []
 
-field-within : Within field
-unfolding field
+field-within : Within chainNet
+unfolding chainNet
 field-within = place-report-within _ (change-within _ (change-within _ (fresh-within 3 0) 0 1 1) 1 2 1) 0 1 7 1
 
 either-le : (b : Bool) (i j c : ℕ) → i ≤ c → j ≤ c → cond b i j ≤ c
@@ -48,16 +48,16 @@ either-le false i j c h k = k
 
 -- what is computed of the field and its rounds
 record Facts : Type 0 where
-  still : still field stretch ≡ true
-  heard : missed (field .nodes) 2 (field .cost) (rounds field stretch) ≡ false
-  count : roundsHeard field [] stretch ≡ (field .nodes - 1) * 2 - 1
-  nodes : atEnd field [] stretch .nodes ≡ 3
-  low : (s r : ℕ) → atEnd field [] stretch .cost s r ≤ 1
+  still : still chainNet stretch ≡ true
+  heard : missed (chainNet .nodes) 2 (chainNet .cost) (rounds chainNet stretch) ≡ false
+  count : roundsHeard chainNet [] stretch ≡ (chainNet .nodes - 1) * 2 - 1
+  nodes : atEnd chainNet [] stretch .nodes ≡ 3
+  low : (s r : ℕ) → atEnd chainNet [] stretch .cost s r ≤ 1
   -- the wrong label went on to node 2
-  row-two : atEnd field [] stretch .row 2 ≡ via 9 1 7
+  row-two : atEnd chainNet [] stretch .row 2 ≡ via 9 1 7
 
 facts : Facts
-unfolding field stretch has put sizeFault pairFault costFault reportLabelFault listFault arcFault reportFault setPair withCost withHeld
+unfolding chainNet stretch has put sizeFault pairFault costFault reportLabelFault listFault arcFault reportFault setPair withCost withHeld
     outcome freshNet freshNumber freshOf placeReportNumber placeReportOf report hear offer against winner listOf rowBy choice renewTo
     renew marked some strayMark idleMark roundNumber roundOf playRound changed changeNumber changeOf called accepted after marksThen
     rounds still unheard missed
@@ -71,19 +71,19 @@ facts =
       row-two = refl;
     }
 
-unreal-end : AllReal (atEnd field [] stretch) → ⊥
+unreal-end : AllReal (atEnd chainNet [] stretch) → ⊥
 unfolding after
 unreal-end all =
     too-dear 3 1 (z .cost) (z .origin) 2 9 1 7 ends (facts .low) (omega arith)
     (subst (Real (z .cost) (z .origin) 2) (facts .row-two) (all 2 (omega (arith, facts .nodes))))
   where
     z : Net
-    z = atEnd field [] stretch
+    z = atEnd chainNet [] stretch
 
     w : Within z
-    w = after-within field field-within stretch
+    w = after-within chainNet field-within stretch
 
-    ends : Ends 3 (z .origin) (z .cost)
+    ends : ArcEnds 3 (z .origin) (z .cost)
     ends =
         record {
           origin-node = omega (arith, facts .nodes, within-size z w);
@@ -91,15 +91,15 @@ unreal-end all =
           receiver-node = λ s y arc. omega (arith, facts .nodes, within-arc z w s y arc .1);
         }
 
-pub tight : TooFew field [] stretch 2
+pub tight : TooFew chainNet [] stretch 2
 unfolding after
 tight =
     record {
       within = field-within;
-      supposed = supposed-by field [] stretch 2 (omega arith) field-within (facts .still) (facts .heard);
+      supposed = supposed-by chainNet [] stretch 2 (omega arith) field-within (facts .still) (facts .heard);
       count = facts .count;
       unreal = unreal-end;
     }
 
 pub no-sooner : NoSooner
-no-sooner sooner = tight .unreal (sooner field (tight .within) [] stretch 2 (tight .supposed) (omega (arith, tight .count)))
+no-sooner sooner = tight .unreal (sooner chainNet (tight .within) [] stretch 2 (tight .supposed) (omega (arith, tight .count)))

@@ -9,16 +9,12 @@ use lib.Dec.{eqb, ltb}
 use lib.ListN.{replicate}
 use Rattle.ancestors.specs.Ancestors.{has, put, own}
 use Rattle.network.specs.Faults.{maxLabel}
-use Rattle.network.specs.Network.{Row, none, root, via, Report, empty, told, Net, withRow, outcome, freshOf}
+use Rattle.network.specs.Network.{Row, none, root, via, Report, empty, told, Net, withRows, withReports, withRow, outcome, freshOf}
 use Rattle.network.specs.Round.{Marks, hear, winner, rowBy, renew, marked, some, roundNumber, everyArc, round as playRound}
 use Rattle.network.specs.declared.Offer.{Offer}
 use Rattle.network.specs.declared.Offer.the-variants.{Nothing, Sum}
 use Rattle.network.specs.Change.{changeOf, gradeOf}
 use Rattle.settling.specs.Calls.{Call, change, grade, round, fullRound, route, writeImage, after}
-
--- x with other rows
-abbrev pub withRows : (ℕ → Row) → Net → Net
-withRows rows x = record { nodes = x .nodes; origin = x .origin; cost = x .cost; row = rows; held = x .held }
 
 -- ---- bench-fit and false
 
@@ -30,7 +26,7 @@ near y (via d p l) = via d p (put (own y) p)
 
 -- checking only the sender's predecessor: no other ancestor is reported
 abbrev pub predecessorOnly : Marks → Net → Net
-predecessorOnly m x = playRound m (withRows (λ y. near y (x .row y)) x)
+predecessorOnly m x = playRound m (withRows x (λ y. near y (x .row y)))
 
 -- using a row already renewed in this round: one receiver below k after the other hears and gets its new row
 unfoldable pub inTurn : ℕ → Marks → Net → Net
@@ -50,11 +46,11 @@ lesser (via d p l) (via e q k) = cond (ltb d e) (via d p l) (via e q k)
 
 -- keeping the old row against worse offers
 abbrev pub oldKept : Marks → Net → Net
-oldKept m x = let z = playRound m x in withRows (λ y. lesser (x .row y) (z .row y)) z
+oldKept m x = let z = playRound m x in withRows z (λ y. lesser (x .row y) (z .row y))
 
 -- treating an unheard arc as empty: no arc keeps its report
 abbrev pub unheardEmpty : Marks → Net → Net
-unheardEmpty m x = playRound m (record { nodes = x .nodes; origin = x .origin; cost = x .cost; row = x .row; held = λ s r. empty })
+unheardEmpty m x = playRound m (withReports x (λ s r. empty))
 
 -- adding costs in 16 bits
 abbrev pub offer16 : ℕ → ℕ → Report → Offer
@@ -67,7 +63,7 @@ choice16 n cost held y = rowBy y held (winner (λ s. offer16 y (cost s) (held s)
 abbrev pub sixteenBits : Marks → Net → Net
 sixteenBits m x =
     let z = hear m x in
-    withRows (λ y. cond (eqb y (x .origin)) (x .row y) (choice16 (x .nodes) (λ s. z .cost s y) (λ s. z .held s y) y)) z
+    withRows z (λ y. cond (eqb y (x .origin)) (x .row y) (choice16 (x .nodes) (λ s. z .cost s y) (λ s. z .held s y) y))
 
 -- ---- the owner's trials 1 to 3
 
@@ -77,14 +73,14 @@ repeated zero m x = x
 repeated (suc k) m x = playRound m (repeated k m x)
 
 -- a relay's row with a route
-abbrev pub routed : Row → Bool
-routed none = false
-routed (root l) = false
-routed (via d p l) = true
+abbrev pub hasRoute : Row → Bool
+hasRoute none = false
+hasRoute (root l) = false
+hasRoute (via d p l) = true
 
 -- least costs worked out centrally while no relay has a route, by as many full rounds as settle every row; nothing afterwards
 abbrev pub central : Marks → Net → Net
-central m x = cond (some (λ y. routed (x .row y)) (x .nodes)) x (repeated (2 * (x .nodes - 1)) (everyArc x) x)
+central m x = cond (some (λ y. hasRoute (x .row y)) (x .nodes)) x (repeated (2 * (x .nodes - 1)) (everyArc x) x)
 
 -- a round that changes nothing
 abbrev pub idle : Marks → Net → Net
@@ -92,11 +88,11 @@ idle m x = x
 
 -- rows always without a route, but for the origin's
 abbrev pub routeless : Marks → Net → Net
-routeless m x = withRows (λ y. cond (eqb y (x .origin)) (x .row y) none) x
+routeless m x = withRows x (λ y. cond (eqb y (x .origin)) (x .row y) none)
 
 -- one fixed table
 abbrev pub fixed : (ℕ → Row) → Marks → Net → Net
-fixed table m x = withRows table x
+fixed table m x = withRows x table
 
 -- ---- calls with another round
 
@@ -114,8 +110,8 @@ afterBy f x [] = x
 afterBy f x (c ∷ cs) = afterBy f (calledBy f x c) cs
 
 -- document 01's four-node field
-unfoldable pub field : Net
-field =
+unfoldable pub fieldNet : Net
+fieldNet =
     after (freshOf 4 0 .net)
     (change 0 1 1 ∷ change 0 3 4 ∷ change 1 0 1 ∷ change 1 2 1 ∷ change 2 1 1 ∷ change 2 3 1 ∷ change 3 0 4 ∷ change 3 2 1 ∷ [])
 
@@ -135,8 +131,8 @@ abbrev pub dear : List Call
 dear = change 1 2 65535 ∷ twice
 
 -- four full rounds; the link between 0 and 1 removed, and three more
-abbrev pub cut : List Call
-cut = fullRound ∷ fullRound ∷ fullRound ∷ fullRound ∷ change 0 1 0 ∷ change 1 0 0 ∷ fullRound ∷ twice
+abbrev pub linkCut : List Call
+linkCut = fullRound ∷ fullRound ∷ fullRound ∷ fullRound ∷ change 0 1 0 ∷ change 1 0 0 ∷ fullRound ∷ twice
 
 -- with a link between 1 and 3, four full rounds; the arcs from the origin removed, and six more
 abbrev pub ring : List Call
@@ -149,18 +145,18 @@ ring =
 -- after these calls on the field y's row is a by the round f and b by document 01, and the two differ
 abbrev pub Differs : (Marks → Net → Net) → List Call → ℕ → Row → Row → Type 0
 Differs f calls y a b =
-    (afterBy f field calls .row y ≡ a) × (after field calls .row y ≡ b) × (afterBy f field calls .row y ≢ after field calls .row y)
+    (afterBy f fieldNet calls .row y ≡ a) × (after fieldNet calls .row y ≡ b) × (afterBy f fieldNet calls .row y ≢ after fieldNet calls .row y)
 
 -- each false relay gets a row wrong; the first five are document 01's, the others trials 1 to 3
 pub record FalseRelaysDiffer : Type 0 where
   pub predecessor-only-differs : Differs predecessorOnly ring 1 (via 7 2 14) none
   pub renewed-heard-differs : Differs renewedHeard once 2 (via 2 1 7) none
-  pub old-kept-differs : Differs oldKept cut 3 (via 3 2 15) (via 4 0 9)
+  pub old-kept-differs : Differs oldKept linkCut 3 (via 3 2 15) (via 4 0 9)
   pub unheard-empty-differs : Differs unheardEmpty lost 1 none (via 1 0 3)
   pub sixteen-bits-differs : Differs sixteenBits dear 2 (via 0 1 7) (via 5 3 13)
   pub central-differs : Differs central once 2 (via 2 1 7) none
   pub idle-differs : Differs idle once 1 none (via 1 0 3)
   pub routeless-differs : Differs routeless once 1 none (via 1 0 3)
   -- a table with node 2's row after one round does not have its row after two
-  pub fixed-differs : (table : ℕ → Row) → afterBy (fixed table) field once .row 2 ≡ after field once .row 2 →
+  pub fixed-differs : (table : ℕ → Row) → afterBy (fixed table) fieldNet once .row 2 ≡ after fieldNet once .row 2 →
       Differs (fixed table) twice 2 (table 2) (via 2 1 7)

@@ -7,7 +7,7 @@ use Prim.Native.Nat.{ℕ, zero, suc, _+_}
 use lib.Dec.{eqb, ltb}
 use lib.ListN.{length, drop}
 use Rattle.network.specs.Network.{Net}
-use Rattle.records.specs.Numbers.{Bytes, num8, num16, words}
+use Rattle.records.specs.Numbers.{Bytes, num8, num16, wordsIn}
 use Rattle.records.specs.Records.{bodyLength, recordLength, asEvent, allowed, bodyOf}
 use Rattle.records.specs.Opening.{openOf}
 use Rattle.records.specs.Running.{runOf}
@@ -19,7 +19,7 @@ use Rattle.settling.specs.Calls.{Call, change, grade, round, fullRound, 
 unfoldable pub eventCall : ℕ → List ℕ → Call
 eventCall k b =
     cond (eqb k 2) (change (num8 b 0) (num8 b 1) (num16 b 2))
-    (cond (eqb k 5) (round (words 32 b))
+    (cond (eqb k 5) (round (wordsIn 32 b))
     (cond (eqb k 6) fullRound
     (grade (num8 b 0) (num8 b 1) (num8 b 2))))
 

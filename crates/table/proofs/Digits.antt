@@ -1,6 +1,6 @@
 -- Decimal digits: one by one, as `io` gives them, and how many there are.
 -- Assumes nothing.
-use mathlib.Core.Path.{_≡_, refl, sym, ap, _∙_}
+use mathlib.Core.Path.{_≡_, sym, ap, _∙_}
 use mathlib.Core.List.{List, [], _∷_, _++_}
 use mathlib.Core.Logic.{⊎-elim}
 use Prim.Native.Nat.{ℕ, zero, suc, _+_, _*_, _/_, _%_, _^_, _<_, _≤_}
@@ -9,9 +9,9 @@ use native.Mathlib.Numerals.{unary-clauses}
 use native.Mathlib.Omega.{arith}
 use lib.ListN.{length, length-append}
 use borrow.Author.Tests.{lt-ltb, le-ltb}
-use Rattle.io.specs.Digits.{digits, glyph, Fewest}
+use Rattle.io.specs.Digits.{digits, Fewest}
 use Rattle.ancestors.proofs.Cases.{le-or-lt}
-use Rattle.table.specs.Text.{decimalIn, decimal, field}
+use Rattle.table.specs.Text.{decimalIn, decimal}
 
 -- the last digit of n
 abbrev last : ℕ → List ℕ
@@ -62,9 +62,6 @@ decimal-most (suc k) n h =
     (λ big. omega (arith, ap length (decimal-more n big), length-append (decimal (n / 10)) (last n), decimal-most k (n / 10) (omega arith)))
     (λ small. omega (arith, ap length (decimal-one n small))) (le-or-lt 10 n)
 
--- one of 32 bits has at most 10, and one of 64 bits at most 20
-pub word-digits : (n : ℕ) → n < 2 ^ 32 → length (decimal n) ≤ 10
-word-digits n h = decimal-most 9 n (omega arith)
-
+-- one of 64 bits has at most 20
 pub long-digits : (n : ℕ) → n < 2 ^ 64 → length (decimal n) ≤ 20
 long-digits n h = decimal-most 19 n (omega arith)

@@ -1,10 +1,10 @@
--- What a writer leaves in a part, and the bytes that it uses at most.
+-- What a writer leaves in the output, and the bytes that it uses at most.
 -- Assumes nothing.
 use mathlib.Core.List.{List}
-use Prim.Native.Nat.{ℕ, _≤_}
-use Rattle.filling.specs.Filling.{Wrote}
+use Prim.Native.Nat.{ℕ, _+_, _≤_}
+use Rattle.filling.specs.Filling.{Added}
 
--- the bytes w were written at the front of the part, and there are at most m
-pub record Filled (m : ℕ) (w entry exit : List ℕ) (r : ℕ) : Type 0 where
-  pub wrote : Wrote w entry exit r
-  pub most : r ≤ m
+-- the bytes w were written from the place a on, b is the place after them, and there are at most m
+pub record Filled (m : ℕ) (w entry exit : List ℕ) (a b : ℕ) : Type 0 where
+  pub added : Added w entry exit a b
+  pub most : b ≤ a + m

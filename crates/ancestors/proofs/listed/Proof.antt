@@ -10,11 +10,8 @@ use Rattle.ancestors.proofs.listed.Tie as tie
 returns : tie.Need-returns
 returns c = sym (has-beyond 32 (c .before .args .list) (c .before .args .node) (c .before .fits .list .fits) (c .if1 .taken))
 
-shr-result : tie.Need-shr-result
-shr-result c = omega arith
-
 returns-2 : tie.Need-returns-2
 returns-2 c = code-has (c .before .args .list) (c .before .args .node)
 
 pub listed-spec : {M : Type 1} → statement M
-listed-spec = tie.close (tie.spec returns shr-result returns-2)
+listed-spec = tie.close (tie.spec returns (λ c. omega arith) returns-2)

@@ -9,27 +9,12 @@ use Rattle.bench.proofs.Handing.{two-words}
 use Rattle.bench.proofs.bench_image.Statement.{statement}
 use Rattle.bench.proofs.bench_image.Tie as tie
 
-write-image-requires : tie.Need-write-image-requires
-write-image-requires c κs = search needs
-
-cast-all : tie.Need-cast-all
-cast-all c = search needs
-
-slice-write-all : tie.Need-slice-write-all
-slice-write-all c = search needs
-
-slice-write-all-2 : tie.Need-slice-write-all-2
-slice-write-all-2 c = simp length-set (omega arith)
-
-same-length : tie.Need-same-length
-same-length c = search needs
-
 returns : tie.Need-returns
 returns c =
     let a = c .before .before .before .before .before .before .before .args in
     let w = c .before .before .before .before .write-image .ensures in
     let t = two-words (now (a .answer)) _ _ (omega arith) in
-    record { number = t .0 ∙ w .number; length = t .1 ∙ w .length; output = w .output }
+    record { number = t .0 ∙ w .number; used = t .1 ∙ w .used; output = w .output }
 
 pub bench-image-spec : {M : Type 1} → statement M
-bench-image-spec = tie.close (tie.spec write-image-requires cast-all slice-write-all slice-write-all-2 same-length returns)
+bench-image-spec = tie.close (tie.spec (λ c κs. search needs) (λ c. search needs) (λ c. search needs) (λ c. simp length-set (omega arith)) (λ c. search needs) returns)

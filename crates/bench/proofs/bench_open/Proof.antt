@@ -9,21 +9,6 @@ use Rattle.bench.proofs.Handing.{three-words}
 use Rattle.bench.proofs.bench_open.Statement.{statement}
 use Rattle.bench.proofs.bench_open.Tie as tie
 
-open-into-requires : tie.Need-open-into-requires
-open-into-requires c κs = search needs
-
-cast-all : tie.Need-cast-all
-cast-all c = search needs
-
-slice-write-all : tie.Need-slice-write-all
-slice-write-all c = search needs
-
-slice-write-all-2 : tie.Need-slice-write-all-2
-slice-write-all-2 c = simp length-set (omega arith)
-
-slice-write-all-3 : tie.Need-slice-write-all-3
-slice-write-all-3 c = simp length-set (omega arith)
-
 returns : tie.Need-returns
 returns c =
     let a = c .before .before .before .before .before .args in
@@ -32,4 +17,4 @@ returns c =
     record { number-is = t .0 ∙ o .number-is; place-is = t .1 ∙ o .place-is; used-is = t .2 ∙ o .used-is; net-is = o .net-is }
 
 pub bench-open-spec : {M : Type 1} → statement M
-bench-open-spec = tie.close (tie.spec open-into-requires cast-all slice-write-all slice-write-all-2 slice-write-all-3 returns)
+bench-open-spec = tie.close (tie.spec (λ c κs. search needs) (λ c. search needs) (λ c. search needs) (λ c. simp length-set (omega arith)) (λ c. simp length-set (omega arith)) returns)

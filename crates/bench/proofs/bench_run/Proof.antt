@@ -9,27 +9,12 @@ use Rattle.bench.proofs.Handing.{three-words}
 use Rattle.bench.proofs.bench_run.Statement.{statement}
 use Rattle.bench.proofs.bench_run.Tie as tie
 
-run-requires : tie.Need-run-requires
-run-requires c κs = search needs
-
-cast-all : tie.Need-cast-all
-cast-all c = search needs
-
-slice-write-all : tie.Need-slice-write-all
-slice-write-all c = search needs
-
-slice-write-all-2 : tie.Need-slice-write-all-2
-slice-write-all-2 c = simp length-set (omega arith)
-
-slice-write-all-3 : tie.Need-slice-write-all-3
-slice-write-all-3 c = simp length-set (omega arith)
-
 returns : tie.Need-returns
 returns c =
     let a = c .before .before .before .before .before .args in
-    let o = c .before .before .before .run .ensures in
+    let o = c .before .before .run-into .ensures in
     let t = three-words (now (a .answer)) _ _ _ (omega arith) in
     record { number = t .0 ∙ o .number; place = t .1 ∙ o .place; rounds = t .2 ∙ o .rounds; net = o .net }
 
 pub bench-run-spec : {M : Type 1} → statement M
-bench-run-spec = tie.close (tie.spec run-requires cast-all slice-write-all slice-write-all-2 slice-write-all-3 returns)
+bench-run-spec = tie.close (tie.spec (λ c κs. search needs) (λ c. search needs) (λ c. search needs) (λ c. simp length-set (omega arith)) (λ c. simp length-set (omega arith)) returns)

@@ -7,14 +7,8 @@ use Rattle.firmware.proofs.Calling.{answered, answers-long, place-short
 use Rattle.firmware.proofs.gerqalli_run.Statement.{statement}
 use Rattle.firmware.proofs.gerqalli_run.Tie as tie
 
-refusal-requires : tie.Need-refusal-requires
-refusal-requires c κs = search needs
-
 returns : tie.Need-returns
 returns c = answered (c .refusal .ensures) (answers-long _ _ (c .before .if1 .taken))
-
-run-into-requires : tie.Need-run-into-requires
-run-into-requires c κs = search needs
 
 refusal-requires-2 : tie.Need-refusal-requires-2
 refusal-requires-2 c κs =
@@ -24,15 +18,6 @@ returns-2 : tie.Need-returns-2
 returns-2 c =
     let ran = c .before .before .before in
     answered (c .refusal2 .ensures) (answers-refused _ _ (ran .before .before .if1 .left) _ _ (ran .run-into .ensures) (c .before .if2 .taken))
-
-write-image-requires : tie.Need-write-image-requires
-write-image-requires c κs = search needs
-
-refusal-requires-3 : tie.Need-refusal-requires-3
-refusal-requires-3 c κs = search needs
-
-same-length : tie.Need-same-length
-same-length c = search needs
 
 returns-3 : tie.Need-returns-3
 returns-3 c =
@@ -54,9 +39,6 @@ mul-result c =
       length-small _ _ (ran .before .before .if1 .left) _ _ (ran .run-into .ensures) (good .if2 .left) _ _ (wrote .write-image .ensures),
     )
 
-same-length-2 : tie.Need-same-length-2
-same-length-2 c = search needs
-
 returns-4 : tie.Need-returns-4
 returns-4 c =
     let wrote = c .before .before .before .before in
@@ -69,15 +51,15 @@ pub gerqalli-run-spec : {M : Type 1} → statement M
 gerqalli-run-spec =
     tie.close
     (tie.spec
-    refusal-requires
+    (λ c κs. search needs)
     returns
-    run-into-requires
+    (λ c κs. search needs)
     refusal-requires-2
     returns-2
-    write-image-requires
-    refusal-requires-3
-    same-length
+    (λ c κs. search needs)
+    (λ c κs. search needs)
+    (λ c. search needs)
     returns-3
     mul-result
-    same-length-2
+    (λ c. search needs)
     returns-4)

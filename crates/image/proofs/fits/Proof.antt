@@ -12,9 +12,6 @@ use Rattle.records.proofs.Sizes.{image-bound, largest-image}
 use Rattle.image.proofs.fits.Statement.{statement}
 use Rattle.image.proofs.fits.Tie as tie
 
-origin-requires : tie.Need-origin-requires
-origin-requires c κs = search needs
-
 returns : tie.Need-returns
 returns c =
     let a = c .before .before .before .args in
@@ -22,13 +19,10 @@ returns c =
     let most = image-bound x _ (omega (arith, c .before .origin .ensures)) (read-origin (now (a .net)) (x .origin) refl) in
     sym (le-leb _ (a .room) (omega (arith, largest-image)))
 
-image-length-requires : tie.Need-image-length-requires
-image-length-requires c κs = search needs
-
 returns-2 : tie.Need-returns-2
 returns-2 c =
     let a = c .before .before .args in
     ap (λ k. leb k (a .room)) (c .image-length .ensures)
 
 pub fits-spec : {M : Type 1} → statement M
-fits-spec = tie.close (tie.spec origin-requires returns image-length-requires returns-2)
+fits-spec = tie.close (tie.spec (λ c κs. search needs) returns (λ c κs. search needs) returns-2)

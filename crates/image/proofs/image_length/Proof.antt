@@ -9,9 +9,11 @@ use borrow.Author.Needs.{needs}
 use denote.Ref.{now}
 use Rattle.memory.specs.Layout.{view}
 use Rattle.memory.proofs.Laws.{few}
+use Rattle.records.specs.Records.{bodyLength, recordLength}
 use Rattle.records.specs.Image.{each}
-use Rattle.image.specs.Lines.{line}
-use Rattle.image.proofs.Lengths.{each-zero, each-next}
+use Rattle.records.proofs.Each.{each-zero, each-next}
+use Rattle.image.specs.Lines.{recordLine}
+use Rattle.image.specs.Measured.{longestLine}
 use Rattle.image.proofs.Parting.{image-long}
 use Rattle.image.proofs.image_length.Statement.{statement}
 use Rattle.image.proofs.image_length.Tie as tie
@@ -19,65 +21,58 @@ use Rattle.image.proofs.image_length.Tie as tie
 abbrev Inv-loop : tie.InvT-loop
 Inv-loop net n total₀ s₀ total s =
     let x = view net in
-    (total ≡ 4 + length (line x 3 n 0) + length (each (line x 2 n) 0 s) + length (each (line x 4 n) 0 s)) × (total ≤ 356 + 704 * s) × (s ≤ n)
+    (total ≡ recordLength 1 + recordLength 0 + length (recordLine x 3 n 0) + length (each (recordLine x 2 n) 0 s) + length (each (recordLine x 4 n) 0 s)) ×
+    (total ≤ recordLength 1 + recordLength 0 + longestLine + (longestLine + longestLine) * s) × (s ≤ n)
 
 abbrev μ-loop : tie.MeasureT-loop
 μ-loop net n total₀ s₀ total s = n - s
 
-nodes-requires : tie.Need-nodes-requires Inv-loop μ-loop
-nodes-requires c κs = search needs
-
 line-length-requires : tie.Need-line-length-requires Inv-loop μ-loop
-line-length-requires c κs = omega (arith, c .nodes .ensures, few (now (c .before .args .net)))
+line-length-requires c κs = omega (arith, c .nodes .ensures)
 
 add-total : tie.Need-add-total Inv-loop μ-loop
+unfolding bodyLength
 add-total c = omega (arith, c .line-length .ensures .most)
 
 loop-holds : tie.Need-loop-holds Inv-loop μ-loop
+unfolding bodyLength
 loop-holds c =
     let x = view (now (c .before .before .args .net)) in
     let n = c .before .nodes .result in
-    let a = ap length (each-zero (line x 2 n) 0) in
-    let b = ap length (each-zero (line x 4 n) 0) in
+    let a = ap length (each-zero (recordLine x 2 n) 0) in
+    let b = ap length (each-zero (recordLine x 4 n) 0) in
     let h = c .line-length .ensures in
     (omega (arith, a, b, h .exact), omega (arith, h .most), omega arith)
 
 line-length-requires-2 : tie.Need-line-length-requires-2 Inv-loop μ-loop
-line-length-requires-2 c κs =
-    let d = c .before .before .before in
-    omega (arith, d .nodes .ensures, few (now (d .before .args .net)))
+line-length-requires-2 c κs = omega (arith, c .before .before .before .nodes .ensures)
 
 add-total-2 : tie.Need-add-total-2 Inv-loop μ-loop
+unfolding bodyLength
 add-total-2 c =
     let l = c .before .before .loop in
     let d = c .before .before .before .before in
     omega (arith, l .inv .1, l .inv .2, d .nodes .ensures, few (now (d .before .args .net)), c .line-length2 .ensures .most)
 
 line-length-requires-3 : tie.Need-line-length-requires-3 Inv-loop μ-loop
-line-length-requires-3 c κs =
-    let d = c .before .before .before .before in
-    omega (arith, d .nodes .ensures, few (now (d .before .args .net)))
+line-length-requires-3 c κs = omega (arith, c .before .before .before .before .nodes .ensures)
 
 add-total-3 : tie.Need-add-total-3 Inv-loop μ-loop
+unfolding bodyLength
 add-total-3 c =
     let l = c .before .before .before .loop in
     let d = c .before .before .before .before .before in
     omega (arith, l .inv .1, l .inv .2, d .nodes .ensures, few (now (d .before .args .net)), c .before .line-length2 .ensures .most, c .line-length3 .ensures .most)
 
-add-s : tie.Need-add-s Inv-loop μ-loop
-add-s c = omega arith
-
-loop-less : tie.Need-loop-less Inv-loop μ-loop
-loop-less c = omega arith
-
 loop-again : tie.Need-loop-again Inv-loop μ-loop
+unfolding bodyLength
 loop-again c =
     let l = c .before .before .before .loop in
     let d = c .before .before .before .before .before in
     let x = view (now (d .before .args .net)) in
     let n = d .nodes .result in
-    let f = line x 2 n in
-    let g = line x 4 n in
+    let f = recordLine x 2 n in
+    let g = recordLine x 4 n in
     let a = c .before .line-length2 .ensures in
     let b = c .line-length3 .ensures in
     let p = ap length (each-next f (l .s)) in
@@ -96,7 +91,7 @@ returns c =
     let n = d .nodes .result in
     let long = image-long x n _ (d .nodes .ensures) refl (few w) in
     let e : l .s ≡ n = omega arith in
-    omega (arith, l .inv .0, ap (λ s. length (each (line x 2 n) 0 s)) e, ap (λ s. length (each (line x 4 n) 0 s)) e)
+    omega (arith, l .inv .0, ap (λ s. length (each (recordLine x 2 n) 0 s)) e, ap (λ s. length (each (recordLine x 4 n) 0 s)) e)
 
 pub image-length-spec : {M : Type 1} → statement M
 image-length-spec =
@@ -104,7 +99,7 @@ image-length-spec =
     (tie.spec
     Inv-loop
     μ-loop
-    nodes-requires
+    (λ c κs. search needs)
     line-length-requires
     add-total
     loop-holds
@@ -112,7 +107,7 @@ image-length-spec =
     add-total-2
     line-length-requires-3
     add-total-3
-    add-s
-    loop-less
+    (λ c. omega arith)
+    (λ c. omega arith)
     loop-again
     returns)

@@ -5,31 +5,23 @@ use native.Mathlib.Omega.{arith}
 use lib.ListN.{length-set}
 use denote.Ref.{now}
 use Rattle.records.specs.Numbers.{be8}
-use Rattle.records.specs.Records.{headerRecord}
+use Rattle.records.specs.Records.{bodyLength, headerRecord}
+use Rattle.image.proofs.Lengths.{sizes}
 use Rattle.image.proofs.Stores.{stored-three}
 use Rattle.image.proofs.put_header.Statement.{statement}
 use Rattle.image.proofs.put_header.Tie as tie
 
 slice-write-out : tie.Need-slice-write-out
-slice-write-out c = omega arith
-
-cast-out : tie.Need-cast-out
-cast-out c = omega arith
+slice-write-out c = omega (arith, sizes)
 
 slice-write-out-2 : tie.Need-slice-write-out-2
-slice-write-out-2 c = simp length-set (omega arith)
-
-cast-out-2 : tie.Need-cast-out-2
-cast-out-2 c = omega arith
+slice-write-out-2 c = simp length-set (omega (arith, sizes))
 
 slice-write-out-3 : tie.Need-slice-write-out-3
-slice-write-out-3 c = simp length-set (omega arith)
-
-same-length : tie.Need-same-length
-same-length c = search needs
+slice-write-out-3 c = simp length-set (omega (arith, sizes))
 
 returns : tie.Need-returns
-unfolding headerRecord be8
+unfolding bodyLength headerRecord be8
 returns c = stored-three _ _ _ (now (c .args .out)) (c .pre)
 
 pub put-header-spec : {M : Type 1} → statement M
@@ -37,9 +29,9 @@ put-header-spec =
     tie.close
     (tie.spec
     slice-write-out
-    cast-out
+    (λ c. omega arith)
     slice-write-out-2
-    cast-out-2
+    (λ c. omega arith)
     slice-write-out-3
-    same-length
+    (λ c. search needs)
     returns)

@@ -6,17 +6,13 @@ use mathlib.Core.Path.{refl}
 use denote.Ref.{now}
 use Rattle.memory.specs.Layout.{view}
 use Rattle.memory.proofs.Laws.{few}
+use Rattle.records.specs.Records.{recordLength}
 use Rattle.records.proofs.Sizes.{end-long}
 use Rattle.filling.proofs.Parts.{wrote-as, wrote-on, wrote-then, added-within, added-room}
+use Rattle.image.proofs.Lengths.{sizes}
 use Rattle.image.proofs.Parting.{image-parts, image-long, header-end}
 use Rattle.image.proofs.put_image.Statement.{statement}
 use Rattle.image.proofs.put_image.Tie as tie
-
-nodes-requires : tie.Need-nodes-requires
-nodes-requires c κs = search needs
-
-origin-requires : tie.Need-origin-requires
-origin-requires c κs = search needs
 
 put-header-requires : tie.Need-put-header-requires
 put-header-requires c κs =
@@ -58,9 +54,6 @@ sub-put-end c = added-within (c .before .before .put-lines2 .ensures)
 part-put-end-start : tie.Need-part-put-end-start
 part-put-end-start c = added-within (c .before .before .put-lines2 .ensures)
 
-part-put-end-end : tie.Need-part-put-end-end
-part-put-end-end c = search needs
-
 put-end-requires : tie.Need-put-end-requires
 put-end-requires c κs =
     let reports = c .before .before .before in
@@ -71,7 +64,7 @@ put-end-requires c κs =
     let n = header .before .before .before .nodes in
     let long = image-long (view w) (n .result) _ (n .ensures) refl (few w) in
     let three = header-end _ _ (header .put-header .ensures) in
-    added-room 1 (reports .put-lines2 .ensures) (omega (arith, arcs .put-lines .ensures .place, rows .put-line .ensures .place, reports .put-lines2 .ensures .place))
+    added-room (recordLength 0) (reports .put-lines2 .ensures) (omega (arith, arcs .put-lines .ensures .place, rows .put-line .ensures .place, reports .put-lines2 .ensures .place))
 
 add-result : tie.Need-add-result
 add-result c =
@@ -86,10 +79,7 @@ add-result c =
     let three = header-end _ _ (header .put-header .ensures) in
     let start = header .before .before .before .before .before in
     let last = end .put-end .ensures .used in
-    omega (arith, arcs .put-lines .ensures .place, rows .put-line .ensures .place, reports .put-lines2 .ensures .place, end-long, start .good, start .pre)
-
-same-length : tie.Need-same-length
-same-length c = search needs
+    omega (arith, arcs .put-lines .ensures .place, rows .put-line .ensures .place, reports .put-lines2 .ensures .place, end-long, sizes, start .good, start .pre)
 
 returns : tie.Need-returns
 returns c =
@@ -110,16 +100,16 @@ pub put-image-spec : {M : Type 1} → statement M
 put-image-spec =
     tie.close
     (tie.spec
-    nodes-requires
-    origin-requires
+    (λ c κs. search needs)
+    (λ c κs. search needs)
     put-header-requires
     put-lines-requires
     put-line-requires
     put-lines-requires-2
     sub-put-end
     part-put-end-start
-    part-put-end-end
+    (λ c. search needs)
     put-end-requires
     add-result
-    same-length
+    (λ c. search needs)
     returns)

@@ -7,10 +7,11 @@ use lib.ListN.{length}
 use denote.Ref.{now}
 use Rattle.memory.specs.Layout.{view}
 use Rattle.records.specs.Image.{each}
+use Rattle.records.proofs.Each.{each-zero, each-next}
 use Rattle.filling.specs.Filling.{Added}
 use Rattle.filling.proofs.Parts.{added-none, added-as, added-long, added-on}
 use Rattle.image.specs.Lines.{recordAt}
-use Rattle.image.proofs.Lengths.{each-zero, each-next, each-among}
+use Rattle.image.proofs.Lengths.{each-among}
 use Rattle.image.proofs.put_line.Statement.{statement}
 use Rattle.image.proofs.put_line.Tie as tie
 
@@ -34,12 +35,6 @@ put-record-requires c κs =
     let f = recordAt (view (now (a .net))) (a .kind) (a .s) in
     let whole = added-long (l .inv .0) (omega (arith, l .inv .0 .place, each-among f (l .i) (a .n) (c .before .loop-test .taken))) in
     (omega arith, (omega arith, omega (arith, l .inv .0 .place, each-among f (l .i) (a .n) (c .before .loop-test .taken))))
-
-add-i : tie.Need-add-i Inv-loop μ-loop
-add-i c = omega arith
-
-loop-less : tie.Need-loop-less Inv-loop μ-loop
-loop-less c = omega arith
 
 loop-again : tie.Need-loop-again Inv-loop μ-loop
 loop-again c =
@@ -72,8 +67,8 @@ put-line-spec =
     μ-loop
     loop-holds
     put-record-requires
-    add-i
-    loop-less
+    (λ c. omega arith)
+    (λ c. omega arith)
     loop-again
     same-length
     returns)

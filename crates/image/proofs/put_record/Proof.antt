@@ -1,73 +1,57 @@
--- `image::put_record` meets its contract: the kind decides.
+-- `image::put_record` meets its contract: what was read, in the rest of the output.
 -- Assumes nothing.
 use borrow.Author.Needs.{needs}
-use mathlib.Core.Path.{refl}
+use native.Mathlib.Omega.{arith}
+use mathlib.Core.Path.{refl, sym, ap, _∙_}
+use lib.ListN.{length}
 use denote.Ref.{now}
-use Rattle.memory.specs.Layout.{view}
-use Rattle.filling.proofs.Parts.{added-as}
-use Rattle.image.proofs.Reading.{kind-arc, kind-row, kind-report}
-use Rattle.image.proofs.Stores.{place-room}
+use Rattle.filling.proofs.Parts.{added-none, added-as, place-room, rest-room, rest-added}
+use Rattle.image.specs.Items.{itemBytes}
 use Rattle.image.proofs.put_record.Statement.{statement}
 use Rattle.image.proofs.put_record.Tie as tie
 
-put-arc-of-requires : tie.Need-put-arc-of-requires
-put-arc-of-requires c κs =
-    let b = c .before .before .before in
-    let a = b .args in
-    let kind = kind-arc (view (now (a .net))) (a .kind) (a .s) (a .i) (c .before .if1 .taken) in
-    (b .pre .0, (b .pre .1 .0, place-room (a .at) kind refl (b .pre .1 .1)))
+read-item-requires : tie.Need-read-item-requires
+read-item-requires c κs = (c .before .pre .0, c .before .pre .1 .0)
 
-same-length : tie.Need-same-length
-same-length c = search needs
+put-item-requires : tie.Need-put-item-requires
+put-item-requires c κs =
+    let read = c .before .before in
+    let b = read .before .before in
+    let a = b .args in
+    rest-room (now (a .out)) (a .at) (omega arith) _ (place-room (a .at) (sym (read .read-item .ensures)) refl (b .pre .1 .1))
+
+add-result : tie.Need-add-result
+add-result c =
+    let put = c .before .before in
+    let read = put .before .before .before in
+    let b = read .before .before in
+    omega (arith, b .pre .1 .1, b .good, ap length (read .read-item .ensures), put .put-item .ensures .used)
 
 returns : tie.Need-returns
+unfolding itemBytes
 returns c =
-    let d = c .before .before .before .before in
-    let a = d .before .before .args in
-    added-as (kind-arc (view (now (a .net))) (a .kind) (a .s) (a .i) (d .if1 .taken)) (c .before .before .put-arc-of .ensures)
-
-put-row-of-requires : tie.Need-put-row-of-requires
-put-row-of-requires c κs =
-    let b = c .before .before .before .before in
-    let a = b .args in
-    let kind = kind-row (view (now (a .net))) (a .kind) (a .s) (a .i) (c .before .before .if1 .left) (c .before .if2 .taken) in
-    place-room (a .at) kind refl (b .pre .1 .1)
-
-same-length-2 : tie.Need-same-length-2
-same-length-2 c = search needs
+    let read = c .before .before in
+    let a = read .before .before .args in
+    added-none (now (a .out)) (a .at) (sym (read .read-item .ensures) ∙ ap (itemBytes (a .s) (a .i)) (c .enum-told .given .1)) (omega arith)
 
 returns-2 : tie.Need-returns-2
 returns-2 c =
-    let d = c .before .before .before .before in
-    let a = d .before .before .before .args in
-    added-as (kind-row (view (now (a .net))) (a .kind) (a .s) (a .i) (d .before .if1 .left) (d .if2 .taken)) (c .before .before .put-row-of .ensures)
-
-put-report-of-requires : tie.Need-put-report-of-requires
-put-report-of-requires c κs =
-    let b = c .before .before .before .before in
-    let a = b .args in
-    let kind = kind-report (view (now (a .net))) (a .kind) (a .s) (a .i) (c .before .before .if1 .left) (c .before .if2 .left) in
-    (b .pre .0, (b .pre .1 .0, place-room (a .at) kind refl (b .pre .1 .1)))
-
-same-length-3 : tie.Need-same-length-3
-same-length-3 c = search needs
-
-returns-3 : tie.Need-returns-3
-returns-3 c =
-    let d = c .before .before .before .before in
-    let a = d .before .before .before .args in
-    added-as (kind-report (view (now (a .net))) (a .kind) (a .s) (a .i) (d .before .if1 .left) (d .if2 .left)) (c .before .before .put-report-of .ensures)
+    let put = c .before .before in
+    let read = put .before .before .before in
+    let a = read .before .before .args in
+    added-as (sym (read .read-item .ensures)) (rest-added (now (a .out)) (a .at) (omega arith) (put .put-item .ensures))
 
 pub put-record-spec : {M : Type 1} → statement M
 put-record-spec =
     tie.close
     (tie.spec
-    put-arc-of-requires
-    same-length
+    read-item-requires
+    (λ c. search needs)
+    (λ c. omega arith)
+    (λ c. omega arith)
+    (λ c. search needs)
+    put-item-requires
+    add-result
     returns
-    put-row-of-requires
-    same-length-2
-    returns-2
-    put-report-of-requires
-    same-length-3
-    returns-3)
+    (λ c. search needs)
+    returns-2)

@@ -9,14 +9,8 @@ use Rattle.image.proofs.Answering.{answers-short, answers-fits}
 use Rattle.image.proofs.write_image.Statement.{statement}
 use Rattle.image.proofs.write_image.Tie as tie
 
-fits-requires : tie.Need-fits-requires
-fits-requires c κs = search needs
-
 put-image-requires : tie.Need-put-image-requires
 put-image-requires c κs = leb-true _ _ (sym (c .before .before .fits2 .ensures) ∙ c .before .if1 .taken)
-
-same-length : tie.Need-same-length
-same-length c = search needs
 
 returns : tie.Need-returns
 returns c =
@@ -31,4 +25,4 @@ returns-2 c =
     answers-short (view (now (a .net))) (now (a .out)) (leb-false _ _ (sym (c .before .fits2 .ensures) ∙ c .if1 .left))
 
 pub write-image-spec : {M : Type 1} → statement M
-write-image-spec = tie.close (tie.spec fits-requires put-image-requires same-length returns returns-2)
+write-image-spec = tie.close (tie.spec (λ c κs. search needs) put-image-requires (λ c. search needs) returns returns-2)

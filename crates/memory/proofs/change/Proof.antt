@@ -12,12 +12,6 @@ use Rattle.memory.proofs.Changing.{arc-pair, arc-value, arc-done}
 use Rattle.memory.proofs.change.Statement.{statement}
 use Rattle.memory.proofs.change.Tie as tie
 
-nodes-requires : tie.Need-nodes-requires
-nodes-requires c κs = search needs
-
-pair-fault-requires : tie.Need-pair-fault-requires
-pair-fault-requires c κs = search needs
-
 returns : tie.Need-returns
 unfolding changeOf changeNumber
 returns c =
@@ -55,4 +49,4 @@ returns-3 c =
     (c .set-arc .ensures)
 
 pub change-spec : {M : Type 1} → statement M
-change-spec = tie.close (tie.spec nodes-requires pair-fault-requires returns returns-2 set-arc-requires returns-3)
+change-spec = tie.close (tie.spec (λ c κs. search needs) (λ c κs. search needs) returns returns-2 set-arc-requires returns-3)

@@ -12,12 +12,6 @@ use Rattle.memory.proofs.Changing.{arc-pair, arc-value, arc-done}
 use Rattle.memory.proofs.grade.Statement.{statement}
 use Rattle.memory.proofs.grade.Tie as tie
 
-nodes-requires : tie.Need-nodes-requires
-nodes-requires c κs = search needs
-
-pair-fault-requires : tie.Need-pair-fault-requires
-pair-fault-requires c κs = search needs
-
 returns : tie.Need-returns
 unfolding gradeOf gradeNumber
 returns c =
@@ -35,9 +29,6 @@ returns-2 c =
     let n = c .before .before .before .nodes in
     arc-value w (n .result) (a .sender) (a .receiver) (n .ensures) (gradeFault (a .grade)) (changed (view w) (a .sender) (a .receiver) (gradeCost (a .grade)))
     (sym (c .before .before .pair-fault .ensures) ∙ c .before .if1 .left) (lt-ltb maxGrade (a .grade) (c .if2 .taken))
-
-grade-cost-requires : tie.Need-grade-cost-requires
-grade-cost-requires c κs = search needs
 
 set-arc-requires : tie.Need-set-arc-requires
 set-arc-requires c κs =
@@ -58,4 +49,4 @@ returns-3 c =
     (c .set-arc .ensures ∙ ap (changed (view w) (a .sender) (a .receiver)) (c .before .grade-cost .ensures))
 
 pub grade-spec : {M : Type 1} → statement M
-grade-spec = tie.close (tie.spec nodes-requires pair-fault-requires returns returns-2 grade-cost-requires set-arc-requires returns-3)
+grade-spec = tie.close (tie.spec (λ c κs. search needs) (λ c κs. search needs) returns returns-2 (λ c κs. search needs) set-arc-requires returns-3)

@@ -13,12 +13,6 @@ use Rattle.memory.proofs.Laws.{wide-held}
 use Rattle.memory.proofs.held.Statement.{statement}
 use Rattle.memory.proofs.held.Tie as tie
 
-nodes-requires : tie.Need-nodes-requires
-nodes-requires c κs = search needs
-
-pair-fault-requires : tie.Need-pair-fault-requires
-pair-fault-requires c κs = search needs
-
 returns : tie.Need-returns
 unfolding heldMeans readHeld
 returns c =
@@ -27,9 +21,6 @@ returns c =
     let e : pairFault (view w .nodes) (a .sender) (a .receiver) ≡ true =
     pair-tested w _ (a .sender) (a .receiver) _ _ (c .before .before .nodes .ensures) (c .before .pair-fault .ensures) (c .if1 .taken) in
     rw e
-
-pair-held-requires : tie.Need-pair-held-requires
-pair-held-requires c κs = search needs
 
 returns-2 : tie.Need-returns-2
 returns-2 c =
@@ -42,4 +33,4 @@ returns-2 c =
 
 pub held-spec : {M : Type 1} → statement M
 held-spec =
-    tie.close (tie.spec nodes-requires pair-fault-requires returns pair-held-requires returns-2)
+    tie.close (tie.spec (λ c κs. search needs) (λ c κs. search needs) returns (λ c κs. search needs) returns-2)

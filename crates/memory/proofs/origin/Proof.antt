@@ -6,11 +6,8 @@ use Rattle.memory.proofs.Store.{read-first}
 use Rattle.memory.proofs.origin.Statement.{statement}
 use Rattle.memory.proofs.origin.Tie as tie
 
-element-copy-out-result : tie.Need-element-copy-out-result
-element-copy-out-result c = search needs
-
 returns : tie.Need-returns
 returns c = read-first (now (c .before .args .net))
 
 pub origin-spec : {M : Type 1} → statement M
-origin-spec = tie.close (tie.spec element-copy-out-result returns)
+origin-spec = tie.close (tie.spec (λ c. search needs) returns)

@@ -9,25 +9,10 @@ use Rattle.memory.proofs.Reading.{pair-cost-refused, pair-cost-read}
 use Rattle.memory.proofs.pair_cost.Statement.{statement}
 use Rattle.memory.proofs.pair_cost.Tie as tie
 
-pair-fault-requires : tie.Need-pair-fault-requires
-pair-fault-requires c κs = search needs
-
 returns : tie.Need-returns
 returns c =
     let a = c .before .before .args in
     pair-cost-refused (now (a .net)) (a .sender) (a .receiver) (sym (c .before .pair-fault .ensures) ∙ c .if1 .taken)
-
-mul-t6 : tie.Need-mul-t6
-mul-t6 c = omega arith
-
-add-t8 : tie.Need-add-t8
-add-t8 c = omega arith
-
-add-t9 : tie.Need-add-t9
-add-t9 c = omega arith
-
-mul-t10 : tie.Need-mul-t10
-mul-t10 c = omega arith
 
 element-copy-out-t13 : tie.Need-element-copy-out-t13
 element-copy-out-t13 c =
@@ -43,4 +28,4 @@ returns-2 c =
 pub pair-cost-spec : {M : Type 1} → statement M
 pair-cost-spec =
     tie.close
-    (tie.spec pair-fault-requires returns mul-t6 add-t8 add-t9 mul-t10 element-copy-out-t13 returns-2)
+    (tie.spec (λ c κs. search needs) returns (λ c. omega arith) (λ c. omega arith) (λ c. omega arith) (λ c. omega arith) element-copy-out-t13 returns-2)

@@ -9,25 +9,10 @@ use Rattle.memory.proofs.Reading.{pair-held-refused, pair-held-none, pa
 use Rattle.memory.proofs.pair_held.Statement.{statement}
 use Rattle.memory.proofs.pair_held.Tie as tie
 
-pair-fault-requires : tie.Need-pair-fault-requires
-pair-fault-requires c κs = search needs
-
 returns : tie.Need-returns
 returns c =
     let a = c .before .before .args in
     pair-held-refused (now (a .net)) (a .sender) (a .receiver) (sym (c .before .pair-fault .ensures) ∙ c .if1 .taken)
-
-mul-at : tie.Need-mul-at
-mul-at c = omega arith
-
-add-at : tie.Need-add-at
-add-at c = omega arith
-
-add-list : tie.Need-add-list
-add-list c = omega arith
-
-mul-list : tie.Need-mul-list
-mul-list c = omega arith
 
 element-copy-out-list : tie.Need-element-copy-out-list
 element-copy-out-list c =
@@ -39,12 +24,6 @@ returns-2 : tie.Need-returns-2
 returns-2 c =
     let a = c .before .before .before .before .args in
     pair-held-none (now (a .net)) (a .sender) (a .receiver) (sym (c .before .before .before .pair-fault .ensures) ∙ c .before .before .if1 .left) (c .if2 .taken)
-
-add-t8 : tie.Need-add-t8
-add-t8 c = omega arith
-
-mul-t7 : tie.Need-mul-t7
-mul-t7 c = omega arith
 
 element-copy-out-t12 : tie.Need-element-copy-out-t12
 element-copy-out-t12 c =
@@ -62,15 +41,15 @@ pub pair-held-spec : {M : Type 1} → statement M
 pair-held-spec =
     tie.close
     (tie.spec
-    pair-fault-requires
+    (λ c κs. search needs)
     returns
-    mul-at
-    add-at
-    add-list
-    mul-list
+    (λ c. omega arith)
+    (λ c. omega arith)
+    (λ c. omega arith)
+    (λ c. omega arith)
     element-copy-out-list
     returns-2
-    add-t8
-    mul-t7
+    (λ c. omega arith)
+    (λ c. omega arith)
     element-copy-out-t12
     returns-3)

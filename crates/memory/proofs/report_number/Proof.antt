@@ -11,12 +11,6 @@ use Rattle.memory.proofs.Store.{sender-node, receiver-node, pair-tested
 use Rattle.memory.proofs.report_number.Statement.{statement}
 use Rattle.memory.proofs.report_number.Tie as tie
 
-nodes-requires : tie.Need-nodes-requires
-nodes-requires c κs = search needs
-
-pair-fault-requires : tie.Need-pair-fault-requires
-pair-fault-requires c κs = search needs
-
 returns : tie.Need-returns
 unfolding placeReportNumber
 returns c =
@@ -35,9 +29,6 @@ cost-word-requires c κs =
     let s = sender-node w _ (a .sender) (a .receiver) n f in
     let r = receiver-node w _ (a .sender) (a .receiver) n f in
     (search needs, (search (s, r), search (s, r)))
-
-report-fault-requires : tie.Need-report-fault-requires
-report-fault-requires c κs = search needs
 
 returns-2 : tie.Need-returns-2
 unfolding placeReportNumber
@@ -67,10 +58,10 @@ pub report-number-spec : {M : Type 1} → statement M
 report-number-spec =
     tie.close
     (tie.spec
-    nodes-requires
-    pair-fault-requires
+    (λ c κs. search needs)
+    (λ c κs. search needs)
     returns
     cost-word-requires
-    report-fault-requires
+    (λ c κs. search needs)
     returns-2
     returns-3)

@@ -15,9 +15,6 @@ use Rattle.memory.proofs.Store.{read-first}
 use Rattle.memory.proofs.row_number.Statement.{statement}
 use Rattle.memory.proofs.row_number.Tie as tie
 
-nodes-requires : tie.Need-nodes-requires
-nodes-requires c κs = search needs
-
 returns : tie.Need-returns
 unfolding placeRowNumber nodeFault
 returns c =
@@ -25,12 +22,6 @@ returns c =
     let w = now (a .net) in
     let h : view w .nodes ≤ a .node = omega arith in
     rw (le-leb (view w .nodes) (a .node) h)
-
-element-copy-out-row-fault : tie.Need-element-copy-out-row-fault
-element-copy-out-row-fault c = search needs
-
-row-fault-requires : tie.Need-row-fault-requires
-row-fault-requires c κs = search needs
 
 returns-2 : tie.Need-returns-2
 unfolding placeRowNumber
@@ -60,9 +51,9 @@ pub row-number-spec : {M : Type 1} → statement M
 row-number-spec =
     tie.close
     (tie.spec
-    nodes-requires
+    (λ c κs. search needs)
     returns
-    element-copy-out-row-fault
-    row-fault-requires
+    (λ c. search needs)
+    (λ c κs. search needs)
     returns-2
     returns-3)

@@ -6,9 +6,6 @@ use Rattle.opening.specs.Answers.{nextOf}
 use Rattle.opening.proofs.judge.Statement.{statement}
 use Rattle.opening.proofs.judge.Tie as tie
 
-add-t4 : tie.Need-add-t4
-add-t4 c = search needs
-
 returns : tie.Need-returns
 unfolding nextOf
 returns c = rw (eq-eqb (c .before .args .number) 0 (c .if1 .taken))
@@ -18,4 +15,4 @@ unfolding nextOf
 returns-2 c = rw (ne-eqb (c .before .args .number) 0 (c .if1 .left))
 
 pub judge-spec : {M : Type 1} → statement M
-judge-spec = tie.close (tie.spec add-t4 returns returns-2)
+judge-spec = tie.close (tie.spec (λ c. search needs) returns returns-2)

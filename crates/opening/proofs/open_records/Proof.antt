@@ -7,23 +7,8 @@ use borrow.Author.Needs.{needs}
 use Rattle.opening.proofs.open_records.Statement.{statement}
 use Rattle.opening.proofs.open_records.Tie as tie
 
-make-fresh-requires : tie.Need-make-fresh-requires
-make-fresh-requires c κs = search needs
-
 returns : tie.Need-returns
 returns c = fresh-refused _ _ _ _ _ _ (c .before .make-fresh .ensures) (c .if1 .taken)
-
-read-records-requires : tie.Need-read-records-requires
-read-records-requires c κs = search needs
-
-enum-known-end : tie.Need-enum-known-end
-enum-known-end c = search needs
-
-refuse-requires : tie.Need-refuse-requires
-refuse-requires c κs = search needs
-
-enum-known-end-2 : tie.Need-enum-known-end-2
-enum-known-end-2 c = search needs
 
 returns-2 : tie.Need-returns-2
 returns-2 c =
@@ -47,11 +32,11 @@ pub open-records-spec : {M : Type 1} → statement M
 open-records-spec =
     tie.close
     (tie.spec
-    make-fresh-requires
+    (λ c κs. search needs)
     returns
-    read-records-requires
-    enum-known-end
-    refuse-requires
-    enum-known-end-2
+    (λ c κs. search needs)
+    (λ c. search needs)
+    (λ c κs. search needs)
+    (λ c. search needs)
     returns-2
     returns-3)

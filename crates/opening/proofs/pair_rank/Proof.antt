@@ -7,15 +7,9 @@ use Rattle.records.specs.Opening.{arcRank}
 use Rattle.opening.proofs.pair_rank.Statement.{statement}
 use Rattle.opening.proofs.pair_rank.Tie as tie
 
-mul-result : tie.Need-mul-result
-mul-result c = search needs
-
-add-result : tie.Need-add-result
-add-result c = search needs
-
 returns : tie.Need-returns
 unfolding arcRank
 returns c = (refl, omega arith)
 
 pub pair-rank-spec : {M : Type 1} → statement M
-pair-rank-spec = tie.close (tie.spec mul-result add-result returns)
+pair-rank-spec = tie.close (tie.spec (λ c. search needs) (λ c. search needs) returns)

@@ -5,15 +5,9 @@ use native.Mathlib.Omega.{arith}
 use mathlib.Core.Path.{sym, ap, _∙_}
 use denote.Ref.{now}
 use Rattle.opening.specs.Answers.{nextOf}
-use Rattle.opening.proofs.Placing.{pair-small, arc-pair, arc-cost, arc-order, arc-placed}
+use Rattle.opening.proofs.Placing.{pair-small, arc-pair, arc-cost, arc-order, arc-done}
 use Rattle.opening.proofs.place_arc.Statement.{statement}
 use Rattle.opening.proofs.place_arc.Tie as tie
-
-nodes-requires : tie.Need-nodes-requires
-nodes-requires c κs = search needs
-
-pair-fault-requires : tie.Need-pair-fault-requires
-pair-fault-requires c κs = search needs
 
 returns : tie.Need-returns
 returns c =
@@ -42,31 +36,25 @@ returns-3 c =
     let e = sym (c .before .before .before .before .pair-fault .ensures) ∙ c .before .before .before .if1 .left in
     arc-order (now (a .net)) (n .result) (a .next) (a .sender) (a .receiver) (a .cost) (n .ensures) e (c .before .before .if2 .left) (omega arith)
 
-change-requires : tie.Need-change-requires
-change-requires c κs = search needs
-
-judge-requires : tie.Need-judge-requires
-judge-requires c κs = search needs
-
 returns-4 : tie.Need-returns-4
 returns-4 c =
     let a = c .before .before .before .before .before .before .before .before .before .before .args in
     let n = c .before .before .before .before .before .before .before .before .nodes in
     let e = sym (c .before .before .before .before .before .before .before .pair-fault .ensures) ∙ c .before .before .before .before .before .before .if1 .left in
     let k = c .before .change in
-    arc-placed (now (a .net)) (n .result) (a .next) (a .sender) (a .receiver) (a .cost) (n .ensures) e (c .before .before .before .before .before .if2 .left) (omega arith) (k .result) (k .last .0) _ (k .ensures)
+    arc-done (now (a .net)) (n .result) (a .next) (a .sender) (a .receiver) (a .cost) (n .ensures) e (c .before .before .before .before .before .if2 .left) (omega arith) (k .result) (k .last .0) _ (k .ensures)
     (c .judge .ensures ∙ ap (nextOf (k .result)) (c .before .before .before .before .pair-rank .ensures .0))
 
 pub place-arc-spec : {M : Type 1} → statement M
 place-arc-spec =
     tie.close
     (tie.spec
-    nodes-requires
-    pair-fault-requires
+    (λ c κs. search needs)
+    (λ c κs. search needs)
     returns
     returns-2
     pair-rank-requires
     returns-3
-    change-requires
-    judge-requires
+    (λ c κs. search needs)
+    (λ c κs. search needs)
     returns-4)

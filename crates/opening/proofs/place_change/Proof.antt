@@ -10,15 +10,6 @@ use borrow.Author.Needs.{needs}
 use Rattle.opening.proofs.place_change.Statement.{statement}
 use Rattle.opening.proofs.place_change.Tie as tie
 
-enum-known-change : tie.Need-enum-known-change
-enum-known-change c = search needs
-
-place-arc-requires : tie.Need-place-arc-requires
-place-arc-requires c κs = search needs
-
-enum-told : tie.Need-enum-told
-enum-told c = search needs
-
 returns : tie.Need-returns
 returns c = of-event _ _ _ _ _ _ (ap Change (c .before .before .before .change .given .1)) (c .place-arc .ensures)
 
@@ -30,4 +21,4 @@ returns-2 c =
 
 pub place-change-spec : {M : Type 1} → statement M
 place-change-spec =
-    tie.close (tie.spec enum-known-change place-arc-requires enum-told returns returns-2)
+    tie.close (tie.spec (λ c. search needs) (λ c κs. search needs) (λ c. search needs) returns returns-2)

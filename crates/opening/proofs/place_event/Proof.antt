@@ -9,39 +9,6 @@ use borrow.Author.Needs.{needs}
 use Rattle.opening.proofs.place_event.Statement.{statement}
 use Rattle.opening.proofs.place_event.Tie as tie
 
-enum-told : tie.Need-enum-told
-enum-told c = search needs
-
-enum-told-2 : tie.Need-enum-told-2
-enum-told-2 c = search needs
-
-enum-known-event : tie.Need-enum-known-event
-enum-known-event c = search needs
-
-place-change-requires : tie.Need-place-change-requires
-place-change-requires c κs = search needs
-
-enum-known-event-2 : tie.Need-enum-known-event-2
-enum-known-event-2 c = search needs
-
-place-row-requires : tie.Need-place-row-requires
-place-row-requires c κs = search needs
-
-enum-known-event-3 : tie.Need-enum-known-event-3
-enum-known-event-3 c = search needs
-
-place-report-requires : tie.Need-place-report-requires
-place-report-requires c κs = search needs
-
-enum-told-3 : tie.Need-enum-told-3
-enum-told-3 c = search needs
-
-enum-told-4 : tie.Need-enum-told-4
-enum-told-4 c = search needs
-
-enum-known-event-4 : tie.Need-enum-known-event-4
-enum-known-event-4 c = search needs
-
 returns : tie.Need-returns
 returns c = of-event _ _ _ _ _ _ (c .enum-told .given .1) (ends _ _)
 
@@ -82,17 +49,17 @@ pub place-event-spec : {M : Type 1} → statement M
 place-event-spec =
     tie.close
     (tie.spec
-    enum-told
-    enum-told-2
-    enum-known-event
-    place-change-requires
-    enum-known-event-2
-    place-row-requires
-    enum-known-event-3
-    place-report-requires
-    enum-told-3
-    enum-told-4
-    enum-known-event-4
+    (λ c. search needs)
+    (λ c. search needs)
+    (λ c. search needs)
+    (λ c κs. search needs)
+    (λ c. search needs)
+    (λ c κs. search needs)
+    (λ c. search needs)
+    (λ c κs. search needs)
+    (λ c. search needs)
+    (λ c. search needs)
+    (λ c. search needs)
     returns
     returns-2
     returns-3

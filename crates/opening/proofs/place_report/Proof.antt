@@ -5,17 +5,11 @@ use native.Mathlib.Omega.{arith}
 use Prim.Native.Nat.{_+_}
 use mathlib.Core.Path.{sym, ap, _∙_}
 use denote.Ref.{now}
-use Rattle.records.specs.Opening.{reportRank}
+use Rattle.records.specs.Opening.{firstReport, reportRank}
 use Rattle.opening.specs.Answers.{nextOf}
-use Rattle.opening.proofs.Placing.{pair-small, report-range, report-order, report-placed}
+use Rattle.opening.proofs.Placing.{pair-small, report-range, report-order, report-done}
 use Rattle.opening.proofs.place_report.Statement.{statement}
 use Rattle.opening.proofs.place_report.Tie as tie
-
-nodes-requires : tie.Need-nodes-requires
-nodes-requires c κs = search needs
-
-pair-fault-requires : tie.Need-pair-fault-requires
-pair-fault-requires c κs = search needs
 
 returns : tie.Need-returns
 returns c =
@@ -30,9 +24,6 @@ pair-rank-requires c κs =
     let e = sym (c .before .pair-fault .ensures) ∙ c .if1 .left in
     pair-small (now (a .net)) (n .result) (a .sender) (a .receiver) (n .ensures) e
 
-add-rank : tie.Need-add-rank
-add-rank c = search needs
-
 returns-2 : tie.Need-returns-2
 unfolding reportRank
 returns-2 c =
@@ -41,12 +32,6 @@ returns-2 c =
     let e = sym (c .before .before .before .pair-fault .ensures) ∙ c .before .before .if1 .left in
     report-order (now (a .net)) (n .result) (a .next) (a .sender) (a .receiver) (a .label) (a .list) (n .ensures) e (omega arith)
 
-place-report-requires : tie.Need-place-report-requires
-place-report-requires c κs = search needs
-
-judge-requires : tie.Need-judge-requires
-judge-requires c κs = search needs
-
 returns-3 : tie.Need-returns-3
 unfolding reportRank
 returns-3 c =
@@ -54,19 +39,19 @@ returns-3 c =
     let n = c .before .before .before .before .before .before .before .nodes in
     let e = sym (c .before .before .before .before .before .before .pair-fault .ensures) ∙ c .before .before .before .before .before .if1 .left in
     let k = c .before .place-report in
-    report-placed (now (a .net)) (n .result) (a .next) (a .sender) (a .receiver) (a .label) (a .list) (n .ensures) e (omega arith) (k .result) (k .last .0) _ (k .ensures)
-    (c .judge .ensures ∙ ap (λ m. nextOf (k .result) (1056 + m)) (c .before .before .before .before .pair-rank .ensures .0))
+    report-done (now (a .net)) (n .result) (a .next) (a .sender) (a .receiver) (a .label) (a .list) (n .ensures) e (omega arith) (k .result) (k .last .0) _ (k .ensures)
+    (c .judge .ensures ∙ ap (λ m. nextOf (k .result) (firstReport + m)) (c .before .before .before .before .pair-rank .ensures .0))
 
 pub place-report-spec : {M : Type 1} → statement M
 place-report-spec =
     tie.close
     (tie.spec
-    nodes-requires
-    pair-fault-requires
+    (λ c κs. search needs)
+    (λ c κs. search needs)
     returns
     pair-rank-requires
-    add-rank
+    (λ c. search needs)
     returns-2
-    place-report-requires
-    judge-requires
+    (λ c κs. search needs)
+    (λ c κs. search needs)
     returns-3)

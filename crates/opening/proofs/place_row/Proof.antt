@@ -5,12 +5,9 @@ use native.Mathlib.Omega.{arith}
 use denote.Ref.{now}
 use Rattle.memory.proofs.Laws.{few}
 use Rattle.records.specs.Opening.{rowRank}
-use Rattle.opening.proofs.Placing.{row-range, row-order, row-placed}
+use Rattle.opening.proofs.Placing.{row-range, row-order, row-done}
 use Rattle.opening.proofs.place_row.Statement.{statement}
 use Rattle.opening.proofs.place_row.Tie as tie
-
-nodes-requires : tie.Need-nodes-requires
-nodes-requires c κs = search needs
 
 returns : tie.Need-returns
 returns c =
@@ -18,18 +15,12 @@ returns c =
     let n = c .before .nodes in
     row-range (now (a .net)) (n .result) (a .next) (a .node) (a .label) (a .predecessor) (a .list) (n .ensures) (c .if1 .taken)
 
-add-rank : tie.Need-add-rank
-add-rank c = search needs
-
 returns-2 : tie.Need-returns-2
 unfolding rowRank
 returns-2 c =
     let a = c .before .before .before .before .args in
     let n = c .before .before .nodes in
     row-order (now (a .net)) (n .result) (a .next) (a .node) (a .label) (a .predecessor) (a .list) (n .ensures) (c .before .if1 .left) (c .if2 .taken)
-
-place-row-requires : tie.Need-place-row-requires
-place-row-requires c κs = search needs
 
 judge-requires : tie.Need-judge-requires
 judge-requires c κs = omega (arith, few (now (c .before .before .before .before .before .before .args .net)))
@@ -40,16 +31,16 @@ returns-3 c =
     let a = c .before .before .before .before .before .before .before .args in
     let n = c .before .before .before .before .before .nodes in
     let k = c .before .place-row in
-    row-placed (now (a .net)) (n .result) (a .next) (a .node) (a .label) (a .predecessor) (a .list) (n .ensures) (c .before .before .before .before .if1 .left) (c .before .before .before .if2 .left) (k .result) (k .last .0) _ (k .ensures) (c .judge .ensures)
+    row-done (now (a .net)) (n .result) (a .next) (a .node) (a .label) (a .predecessor) (a .list) (n .ensures) (c .before .before .before .before .if1 .left) (c .before .before .before .if2 .left) (k .result) (k .last .0) _ (k .ensures) (c .judge .ensures)
 
 pub place-row-spec : {M : Type 1} → statement M
 place-row-spec =
     tie.close
     (tie.spec
-    nodes-requires
+    (λ c κs. search needs)
     returns
-    add-rank
+    (λ c. search needs)
     returns-2
-    place-row-requires
+    (λ c κs. search needs)
     judge-requires
     returns-3)

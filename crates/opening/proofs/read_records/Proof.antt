@@ -22,24 +22,12 @@ loop-holds c =
     let a = c .before .args in
     begin (now (a .input)) (view (now (a .net))) (a .start) (c .before .pre .0) (c .before .pre .1)
 
-image-record-requires : tie.Need-image-record-requires Inv-loop μ-loop
-image-record-requires c κs = search needs
-
-place-event-requires : tie.Need-place-event-requires Inv-loop μ-loop
-place-event-requires c κs = search needs
-
-enum-known-step : tie.Need-enum-known-step Inv-loop μ-loop
-enum-known-step c = search needs
-
 returns : tie.Need-returns Inv-loop μ-loop
 returns c =
     let l = c .before .before .before .before .before .before .loop in
     let d = c .before .before .before .before .before .image-record in
     let p = c .before .before .before .place-event in
     at-stop _ _ _ _ _ (l .inv) _ (d .ensures) _ _ (p .ensures) _ (c .before .step .given .1)
-
-enum-told : tie.Need-enum-told Inv-loop μ-loop
-enum-told c = search needs
 
 add-used : tie.Need-add-used Inv-loop μ-loop
 add-used c = omega (arith, c .before .before .before .before .before .loop .inv .within)
@@ -50,9 +38,6 @@ returns-2 c =
     let d = c .before .before .before .before .image-record in
     let p = c .before .before .place-event in
     at-end _ _ _ _ _ (l .inv) _ (d .ensures) _ _ (p .ensures) (c .enum-told .given .1)
-
-enum-known-step-2 : tie.Need-enum-known-step-2 Inv-loop μ-loop
-enum-known-step-2 c = search needs
 
 add-at : tie.Need-add-at Inv-loop μ-loop
 add-at c =
@@ -83,14 +68,14 @@ read-records-spec =
     Inv-loop
     μ-loop
     loop-holds
-    image-record-requires
-    place-event-requires
-    enum-known-step
+    (λ c κs. search needs)
+    (λ c κs. search needs)
+    (λ c. search needs)
     returns
-    enum-told
+    (λ c. search needs)
     add-used
     returns-2
-    enum-known-step-2
+    (λ c. search needs)
     add-at
     loop-less
     loop-again)

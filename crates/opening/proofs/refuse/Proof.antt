@@ -5,11 +5,8 @@ use Rattle.opening.proofs.Opening.{refused-opens, fresh-one}
 use Rattle.opening.proofs.refuse.Statement.{statement}
 use Rattle.opening.proofs.refuse.Tie as tie
 
-make-fresh-requires : tie.Need-make-fresh-requires
-make-fresh-requires c κs = search needs
-
 returns : tie.Need-returns
 returns c = refused-opens _ _ _ (fresh-one _ _ (c .make-fresh .ensures))
 
 pub refuse-spec : {M : Type 1} → statement M
-refuse-spec = tie.close (tie.spec make-fresh-requires returns)
+refuse-spec = tie.close (tie.spec (λ c κs. search needs) returns)

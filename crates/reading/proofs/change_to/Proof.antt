@@ -1,14 +1,17 @@
--- `reading::change_to` meets its contract.
+-- `reading::change_to` meets its contract: cost 0 removes, another sets.
 -- Assumes nothing.
-use Rattle.reading.proofs.ByKind.{change-removes, change-sets}
+use borrow.Author.Tests.{eq-eqb, ne-eqb}
+use Rattle.records.specs.Records.{arcChange}
 use Rattle.reading.proofs.change_to.Statement.{statement}
 use Rattle.reading.proofs.change_to.Tie as tie
 
 returns : tie.Need-returns
-returns c = change-removes _ _ _ (c .if1 .taken)
+unfolding arcChange
+returns c = rw (eq-eqb (c .before .args .cost) 0 (c .if1 .taken))
 
 returns-2 : tie.Need-returns-2
-returns-2 c = change-sets _ _ _ (c .if1 .left)
+unfolding arcChange
+returns-2 c = rw (ne-eqb (c .before .args .cost) 0 (c .if1 .left))
 
 pub change-to-spec : {M : Type 1} → statement M
 change-to-spec = tie.close (tie.spec returns returns-2)

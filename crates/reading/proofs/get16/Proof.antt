@@ -1,27 +1,24 @@
 -- `reading::get16` meets its contract.
 -- Assumes nothing.
 use borrow.Author.Needs.{needs}
-use mathlib.Core.Path.{_∙_}
-use Rattle.reading.proofs.ByKind.{bytes-at}
+use mathlib.Core.Path.{sym}
+use native.Mathlib.Omega.{arith}
+use denote.Ref.{now}
+use Rattle.records.specs.Numbers.{num16}
+use Rattle.reading.proofs.PastEnd.{past16}
 use Rattle.reading.proofs.get16.Statement.{statement}
 use Rattle.reading.proofs.get16.Tie as tie
 
-shared-slice-read-pair : tie.Need-shared-slice-read-pair
-shared-slice-read-pair c = search needs
-
-add-pair : tie.Need-add-pair
-add-pair c = search needs
-
-shared-slice-read-pair-2 : tie.Need-shared-slice-read-pair-2
-shared-slice-read-pair-2 c = search needs
-
-pair-requires : tie.Need-pair-requires
-pair-requires c κs = search needs
-
 returns : tie.Need-returns
-returns c = (c .pair .ensures .0 ∙ bytes-at _ _, c .pair .ensures .1)
+returns c =
+    let a = c .before .before .args in
+    (sym (past16 (now (a .b)) (a .i) (c .if1 .taken)), omega arith)
+
+returns-2 : tie.Need-returns-2
+unfolding num16
+returns-2 c = (omega arith, omega arith)
 
 pub get16-spec : {M : Type 1} → statement M
 get16-spec =
     tie.close
-    (tie.spec shared-slice-read-pair add-pair shared-slice-read-pair-2 pair-requires returns)
+    (tie.spec returns (λ c κs. search needs) (λ c. search needs) (λ c κs. search needs) (λ c. search needs) (λ c. search needs) returns-2)

@@ -1,43 +1,26 @@
--- `reading::grade_body` meets its contract.
+-- `reading::grade_body` meets its contract: a grade above 15 is refused, another stands for its cost.
 -- Assumes nothing.
 use borrow.Author.Needs.{needs}
+use Prim.Native.Nat.{_<_, _≤_}
 use native.Mathlib.Omega.{arith}
-use Rattle.reading.proofs.ByKind.{grade-refused, grade-read}
+use denote.Ref.{now}
+use Rattle.network.specs.Faults.{maxGrade}
+use Rattle.network.proofs.FaultLaws.{grade-free, grade-bad}
+use Rattle.records.specs.Numbers.{num8}
+use Rattle.records.specs.Records.{gradeChange}
 use Rattle.reading.proofs.grade_body.Statement.{statement}
 use Rattle.reading.proofs.grade_body.Tie as tie
 
-get8-requires : tie.Need-get8-requires
-get8-requires c κs = search needs
-
 returns : tie.Need-returns
-returns c = grade-refused _ _ _ _ (omega arith)
-
-get8-requires-2 : tie.Need-get8-requires-2
-get8-requires-2 c κs = search needs
-
-get8-requires-3 : tie.Need-get8-requires-3
-get8-requires-3 c κs = search needs
-
-grade-cost-requires : tie.Need-grade-cost-requires
-grade-cost-requires c κs = search needs
-
-change-to-requires : tie.Need-change-to-requires
-change-to-requires c κs = search needs
+unfolding gradeChange
+returns c = let h : maxGrade < num8 (now (c .before .before .before .args .b)) 2 = omega arith in rw (grade-bad _ h)
 
 returns-2 : tie.Need-returns-2
-returns-2 c =
-    let g = c .before .before .before .before in
-    grade-read (g .before .before .before .args .at) (g .before .get8 .ensures) (g .if1 .left) (c .change-to .ensures)
-    (c .before .before .before .get82 .ensures) (c .before .before .get83 .ensures) (c .before .grade-cost .ensures)
+unfolding gradeChange
+returns-2 c = let h : num8 (now (c .before .before .before .before .before .before .before .args .b)) 2 ≤ maxGrade = omega arith in rw (grade-free _ h) cc
 
 pub grade-body-spec : {M : Type 1} → statement M
 grade-body-spec =
     tie.close
-    (tie.spec
-    get8-requires
-    returns
-    get8-requires-2
-    get8-requires-3
-    grade-cost-requires
-    change-to-requires
+    (tie.spec (λ c κs. search needs) returns (λ c κs. search needs) (λ c κs. search needs) (λ c κs. search needs) (λ c κs. search needs)
     returns-2)

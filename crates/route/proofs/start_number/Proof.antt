@@ -6,21 +6,6 @@ use Rattle.route.proofs.Answering.{start-refused, start-none, start-ori
 use Rattle.route.proofs.start_number.Statement.{statement}
 use Rattle.route.proofs.start_number.Tie as tie
 
-row-requires : tie.Need-row-requires
-row-requires c κs = search needs
-
-enum-told : tie.Need-enum-told
-enum-told c = search needs
-
-enum-told-2 : tie.Need-enum-told-2
-enum-told-2 c = search needs
-
-enum-told-3 : tie.Need-enum-told-3
-enum-told-3 c = search needs
-
-enum-told-4 : tie.Need-enum-told-4
-enum-told-4 c = search needs
-
 returns : tie.Need-returns
 returns c = sym (start-refused _ (c .before .before .before .args .node) _ (c .before .before .row .ensures) (c .enum-told .given .1))
 
@@ -37,11 +22,11 @@ pub start-number-spec : {M : Type 1} → statement M
 start-number-spec =
     tie.close
     (tie.spec
-    row-requires
-    enum-told
-    enum-told-2
-    enum-told-3
-    enum-told-4
+    (λ c κs. search needs)
+    (λ c. search needs)
+    (λ c. search needs)
+    (λ c. search needs)
+    (λ c. search needs)
     returns
     returns-2
     returns-3

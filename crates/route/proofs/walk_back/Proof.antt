@@ -29,25 +29,10 @@ loop-holds c =
     let p = c .before .pre in
     (start-walk (view (now (a .net))) (a .node) (now (a .bytes)) p, search needs, p)
 
-listed-requires : tie.Need-listed-requires Inv-loop μ-loop
-listed-requires c κs = search needs
-
-same-length : tie.Need-same-length Inv-loop μ-loop
-same-length c = omega arith
-
 returns : tie.Need-returns Inv-loop μ-loop
 returns c =
     let l = c .before .before .before .loop in
     step-again _ _ (l .y) (l .met) (l .left) (l .bytes) (l .inv .0) (search needs) (sym (c .before .listed .ensures) ∙ c .if1 .taken)
-
-row-requires : tie.Need-row-requires Inv-loop μ-loop
-row-requires c κs = search needs
-
-enum-told : tie.Need-enum-told Inv-loop μ-loop
-enum-told c = search needs
-
-same-length-2 : tie.Need-same-length-2 Inv-loop μ-loop
-same-length-2 c = omega arith
 
 returns-2 : tie.Need-returns-2 Inv-loop μ-loop
 returns-2 c =
@@ -56,12 +41,6 @@ returns-2 c =
     let new = sym (c .before .before .before .before .listed .ensures) ∙ c .before .before .before .if1 .left in
     step-lost _ _ (l .y) (l .met) (l .left) (l .bytes) (l .inv .0) (search needs) new r
 
-enum-told-2 : tie.Need-enum-told-2 Inv-loop μ-loop
-enum-told-2 c = search needs
-
-same-length-3 : tie.Need-same-length-3 Inv-loop μ-loop
-same-length-3 c = omega arith
-
 returns-3 : tie.Need-returns-3 Inv-loop μ-loop
 returns-3 c =
     let l = c .before .before .before .before .before .before .loop in
@@ -69,23 +48,11 @@ returns-3 c =
     let new = sym (c .before .before .before .before .listed .ensures) ∙ c .before .before .before .if1 .left in
     step-lost _ _ (l .y) (l .met) (l .left) (l .bytes) (l .inv .0) (search needs) new r
 
-enum-told-3 : tie.Need-enum-told-3 Inv-loop μ-loop
-enum-told-3 c = search needs
-
-sub-left : tie.Need-sub-left Inv-loop μ-loop
-sub-left c = omega arith
-
 cast-bytes : tie.Need-cast-bytes Inv-loop μ-loop
 cast-bytes c =
     let l = c .before .before .before .before .before .before .loop in
     let r = at-origin _ (l .y) _ (c .before .before .row .ensures) (c .enum-told3 .given .1) in
     omega (arith, few (now (c .before .before .before .before .before .before .before .before .args .net)), r .0)
-
-slice-write-bytes : tie.Need-slice-write-bytes Inv-loop μ-loop
-slice-write-bytes c = omega arith
-
-sub-result : tie.Need-sub-result Inv-loop μ-loop
-sub-result c = omega arith
 
 same-length-4 : tie.Need-same-length-4 Inv-loop μ-loop
 same-length-4 c =
@@ -98,26 +65,11 @@ returns-4 c =
     let new = sym (c .before .before .before .before .listed .ensures) ∙ c .before .before .before .if1 .left in
     step-arrived _ _ (l .y) (l .met) (l .left) (l .bytes) (l .inv .0) (search needs) new (l .inv .2) (l .inv .1) _ (r .1)
 
-enum-known-row : tie.Need-enum-known-row Inv-loop μ-loop
-enum-known-row c = search needs
-
-sub-left-2 : tie.Need-sub-left-2 Inv-loop μ-loop
-sub-left-2 c = omega arith
-
 cast-bytes-2 : tie.Need-cast-bytes-2 Inv-loop μ-loop
 cast-bytes-2 c =
     let l = c .before .before .before .before .before .before .before .loop in
     let r = at-relay _ (l .y) _ (c .before .before .before .row .ensures) (c .before .row2 .given .1) in
     omega (arith, few (now (c .before .before .before .before .before .before .before .before .before .args .net)), r .0)
-
-slice-write-bytes-2 : tie.Need-slice-write-bytes-2 Inv-loop μ-loop
-slice-write-bytes-2 c = omega arith
-
-joined-requires : tie.Need-joined-requires Inv-loop μ-loop
-joined-requires c κs = search needs
-
-loop-less : tie.Need-loop-less Inv-loop μ-loop
-loop-less c = omega arith
 
 loop-again : tie.Need-loop-again Inv-loop μ-loop
 loop-again c =
@@ -131,9 +83,6 @@ loop-again c =
       simp length-set (l .inv .2),
     )
 
-same-length-5 : tie.Need-same-length-5 Inv-loop μ-loop
-same-length-5 c = omega arith
-
 returns-5 : tie.Need-returns-5 Inv-loop μ-loop
 returns-5 c =
     let l = c .before .loop in
@@ -146,29 +95,29 @@ walk-back-spec =
     Inv-loop
     μ-loop
     loop-holds
-    listed-requires
-    same-length
+    (λ c κs. search needs)
+    (λ c. omega arith)
     returns
-    row-requires
-    enum-told
-    same-length-2
+    (λ c κs. search needs)
+    (λ c. search needs)
+    (λ c. omega arith)
     returns-2
-    enum-told-2
-    same-length-3
+    (λ c. search needs)
+    (λ c. omega arith)
     returns-3
-    enum-told-3
-    sub-left
+    (λ c. search needs)
+    (λ c. omega arith)
     cast-bytes
-    slice-write-bytes
-    sub-result
+    (λ c. omega arith)
+    (λ c. omega arith)
     same-length-4
     returns-4
-    enum-known-row
-    sub-left-2
+    (λ c. search needs)
+    (λ c. omega arith)
     cast-bytes-2
-    slice-write-bytes-2
-    joined-requires
-    loop-less
+    (λ c. omega arith)
+    (λ c κs. search needs)
+    (λ c. omega arith)
     loop-again
-    same-length-5
+    (λ c. omega arith)
     returns-5)

@@ -8,21 +8,6 @@ use Rattle.memory.proofs.Store.{read-cost}
 use Rattle.routing.proofs.arc_at.Statement.{statement}
 use Rattle.routing.proofs.arc_at.Tie as tie
 
-mul-result : tie.Need-mul-result
-mul-result c = omega arith
-
-add-result : tie.Need-add-result
-add-result c = omega arith
-
-add-result-2 : tie.Need-add-result-2
-add-result-2 c = omega arith
-
-mul-result-2 : tie.Need-mul-result-2
-mul-result-2 c = omega arith
-
-shared-slice-read-result : tie.Need-shared-slice-read-result
-shared-slice-read-result c = omega arith
-
 returns : tie.Need-returns
 returns c =
     ap (ltb 0) (read-cost (now (c .before .args .net)) (c .before .args .sender) (c .before .args .receiver)
@@ -31,4 +16,4 @@ returns c =
 pub arc-at-spec : {M : Type 1} → statement M
 arc-at-spec =
     tie.close
-    (tie.spec mul-result add-result add-result-2 mul-result-2 shared-slice-read-result returns)
+    (tie.spec (λ c. omega arith) (λ c. omega arith) (λ c. omega arith) (λ c. omega arith) (λ c. omega arith) returns)

@@ -8,12 +8,6 @@ use Rattle.routing.proofs.Rounding.{full-round-done}
 use Rattle.routing.proofs.full_round.Statement.{statement}
 use Rattle.routing.proofs.full_round.Tie as tie
 
-nodes-requires : tie.Need-nodes-requires
-nodes-requires c κs = search needs
-
-cast-n : tie.Need-cast-n
-cast-n c = search needs
-
 prime-requires : tie.Need-prime-requires
 prime-requires c κs =
     let a = c .before .before .before .args in
@@ -55,4 +49,4 @@ returns c =
 pub full-round-spec : {M : Type 1} → statement M
 full-round-spec =
     tie.close
-    (tie.spec nodes-requires cast-n prime-requires hear-arcs-requires renew-rows-requires returns)
+    (tie.spec (λ c κs. search needs) (λ c. search needs) prime-requires hear-arcs-requires renew-rows-requires returns)

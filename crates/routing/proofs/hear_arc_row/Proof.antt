@@ -9,14 +9,14 @@ use lib.ListN.{length}
 use denote.Ref.{now}
 use Rattle.network.specs.Network.{Net}
 use Rattle.network.specs.Round.{hear}
-use Rattle.memory.specs.Layout.{words, view}
+use Rattle.memory.specs.Layout.{wordCount, view}
 use Rattle.routing.specs.Inner.{Hears, oneMark, arcRow}
 use Rattle.routing.proofs.Hearing.{hear-arc, hears-next, hears-first, hear-cost, arc-row-none, arc-row-step, node-kept}
 use Rattle.routing.proofs.hear_arc_row.Statement.{statement}
 use Rattle.routing.proofs.hear_arc_row.Tie as tie
 
 abbrev Inv-loop : tie.InvT-loop
-Inv-loop net₀ n receiver s₀ net s = Hears net (hear (arcRow (view net₀) receiver s) (view net₀)) × (length net ≡ words) × (s ≤ n)
+Inv-loop net₀ n receiver s₀ net s = Hears net (hear (arcRow (view net₀) receiver s) (view net₀)) × (length net ≡ wordCount) × (s ≤ n)
 
 abbrev μ-loop : tie.MeasureT-loop
 μ-loop net₀ n receiver s₀ net s = n - s
@@ -62,12 +62,6 @@ hear-arc-requires c κs =
       ),
     )
 
-add-s : tie.Need-add-s Inv-loop μ-loop
-add-s c = omega arith
-
-loop-less : tie.Need-loop-less Inv-loop μ-loop
-loop-less c = omega arith
-
 loop-again : tie.Need-loop-again Inv-loop μ-loop
 loop-again c =
     let l = c .before .before .before .before .before .before .before .loop in
@@ -109,8 +103,8 @@ hear-arc-row-spec =
     loop-holds
     arc-at-requires
     hear-arc-requires
-    add-s
-    loop-less
+    (λ c. omega arith)
+    (λ c. omega arith)
     loop-again
     same-length
     returns)

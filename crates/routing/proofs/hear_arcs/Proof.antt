@@ -7,14 +7,14 @@ use mathlib.Core.Path.{_≡_, sym, ap, _∙_}
 use lib.ListN.{length}
 use denote.Ref.{now}
 use Rattle.network.specs.Round.{hear}
-use Rattle.memory.specs.Layout.{words, view}
+use Rattle.memory.specs.Layout.{wordCount, view}
 use Rattle.routing.specs.Inner.{Hears, arcMarks}
 use Rattle.routing.proofs.Hearing.{hears-first, hear-ext, arcs-none, arcs-next, arcs-all, node-kept, nodes-kept}
 use Rattle.routing.proofs.hear_arcs.Statement.{statement}
 use Rattle.routing.proofs.hear_arcs.Tie as tie
 
 abbrev Inv-loop : tie.InvT-loop
-Inv-loop net₀ n r₀ net r = Hears net (hear (arcMarks (view net₀) r) (view net₀)) × (length net ≡ words) × (r ≤ n)
+Inv-loop net₀ n r₀ net r = Hears net (hear (arcMarks (view net₀) r) (view net₀)) × (length net ≡ wordCount) × (r ≤ n)
 
 abbrev μ-loop : tie.MeasureT-loop
 μ-loop net₀ n r₀ net r = n - r
@@ -41,12 +41,6 @@ hear-arc-row-requires c κs =
         ),
       ),
     )
-
-add-r : tie.Need-add-r Inv-loop μ-loop
-add-r c = omega arith
-
-loop-less : tie.Need-loop-less Inv-loop μ-loop
-loop-less c = omega arith
 
 loop-again : tie.Need-loop-again Inv-loop μ-loop
 loop-again c =
@@ -85,8 +79,8 @@ hear-arcs-spec =
     μ-loop
     loop-holds
     hear-arc-row-requires
-    add-r
-    loop-less
+    (λ c. omega arith)
+    (λ c. omega arith)
     loop-again
     same-length
     returns)

@@ -7,14 +7,14 @@ use mathlib.Core.Path.{_≡_, sym, subst, _∙_}
 use lib.ListN.{length, getD}
 use denote.Ref.{now}
 use Rattle.network.specs.Round.{hear}
-use Rattle.memory.specs.Layout.{words, view}
+use Rattle.memory.specs.Layout.{wordCount, view}
 use Rattle.routing.specs.Inner.{Hears, rowMarks, wordMarks}
 use Rattle.routing.proofs.Hearing.{hears-next, hears-first, words-none, words-step, node-kept, nodes-kept}
 use Rattle.routing.proofs.hear_marks.Statement.{statement}
 use Rattle.routing.proofs.hear_marks.Tie as tie
 
 abbrev Inv-loop : tie.InvT-loop
-Inv-loop net₀ n marks r₀ net r = Hears net (hear (wordMarks marks n r) (view net₀)) × (length net ≡ words) × (r ≤ n)
+Inv-loop net₀ n marks r₀ net r = Hears net (hear (wordMarks marks n r) (view net₀)) × (length net ≡ wordCount) × (r ≤ n)
 
 abbrev μ-loop : tie.MeasureT-loop
 μ-loop net₀ n marks r₀ net r = n - r
@@ -50,12 +50,6 @@ hear-row-requires c κs =
         ),
       ),
     )
-
-add-r : tie.Need-add-r Inv-loop μ-loop
-add-r c = omega arith
-
-loop-less : tie.Need-loop-less Inv-loop μ-loop
-loop-less c = omega arith
 
 loop-again : tie.Need-loop-again Inv-loop μ-loop
 loop-again c =
@@ -97,8 +91,8 @@ hear-marks-spec =
     mul-hear-row
     shared-slice-read-hear-row
     hear-row-requires
-    add-r
-    loop-less
+    (λ c. omega arith)
+    (λ c. omega arith)
     loop-again
     same-length
     returns)

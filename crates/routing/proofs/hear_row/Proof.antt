@@ -8,14 +8,14 @@ use lib.ListN.{length}
 use denote.Ref.{now}
 use Rattle.ancestors.specs.Ancestors.{has}
 use Rattle.network.specs.Round.{hear}
-use Rattle.memory.specs.Layout.{words, view}
+use Rattle.memory.specs.Layout.{wordCount, view}
 use Rattle.routing.specs.Inner.{Hears, oneMark, rowMarks}
-use Rattle.routing.proofs.Hearing.{hear-arc, hears-next, hears-first, row-none, row-step, node-kept}
+use Rattle.routing.proofs.Hearing.{hear-arc, hears-next, hears-first, row-unmarked, row-step, node-kept}
 use Rattle.routing.proofs.hear_row.Statement.{statement}
 use Rattle.routing.proofs.hear_row.Tie as tie
 
 abbrev Inv-loop : tie.InvT-loop
-Inv-loop net₀ n receiver word s₀ net s = Hears net (hear (rowMarks receiver word s) (view net₀)) × (length net ≡ words) × (s ≤ n)
+Inv-loop net₀ n receiver word s₀ net s = Hears net (hear (rowMarks receiver word s) (view net₀)) × (length net ≡ wordCount) × (s ≤ n)
 
 abbrev μ-loop : tie.MeasureT-loop
 μ-loop net₀ n receiver word s₀ net s = n - s
@@ -24,16 +24,13 @@ loop-holds : tie.Need-loop-holds Inv-loop μ-loop
 loop-holds c =
     let a = c .before .args in
     let p = c .before .pre in (
-      hears-first (rowMarks (a .receiver) (a .word) 0) (now (a .net)) (p .1 .0) (row-none (a .receiver) (a .word)),
+      hears-first (rowMarks (a .receiver) (a .word) 0) (now (a .net)) (p .1 .0) (row-unmarked (a .receiver) (a .word)),
       p .0,
       search needs,
     )
 
 cast-listed : tie.Need-cast-listed Inv-loop μ-loop
 cast-listed c = omega (arith, c .before .before .before .before .pre)
-
-listed-requires : tie.Need-listed-requires Inv-loop μ-loop
-listed-requires c κs = search needs
 
 hear-arc-requires : tie.Need-hear-arc-requires Inv-loop μ-loop
 hear-arc-requires c κs =
@@ -51,12 +48,6 @@ hear-arc-requires c κs =
         ),
       ),
     )
-
-add-s : tie.Need-add-s Inv-loop μ-loop
-add-s c = omega arith
-
-loop-less : tie.Need-loop-less Inv-loop μ-loop
-loop-less c = omega arith
 
 loop-again : tie.Need-loop-again Inv-loop μ-loop
 loop-again c =
@@ -97,10 +88,10 @@ hear-row-spec =
     μ-loop
     loop-holds
     cast-listed
-    listed-requires
+    (λ c κs. search needs)
     hear-arc-requires
-    add-s
-    loop-less
+    (λ c. omega arith)
+    (λ c. omega arith)
     loop-again
     same-length
     returns)

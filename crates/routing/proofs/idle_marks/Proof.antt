@@ -22,24 +22,6 @@ loop-holds : tie.Need-loop-holds Inv-loop μ-loop
 unfolding idleRows some
 loop-holds c = (refl, omega arith)
 
-mul-idle-row : tie.Need-mul-idle-row Inv-loop μ-loop
-mul-idle-row c = omega arith
-
-shared-slice-read-idle-row : tie.Need-shared-slice-read-idle-row Inv-loop μ-loop
-shared-slice-read-idle-row c = omega arith
-
-idle-row-requires : tie.Need-idle-row-requires Inv-loop μ-loop
-idle-row-requires c κs = search needs
-
-or-requires : tie.Need-or-requires Inv-loop μ-loop
-or-requires c κs = search needs
-
-add-r : tie.Need-add-r Inv-loop μ-loop
-add-r c = omega arith
-
-loop-less : tie.Need-loop-less Inv-loop μ-loop
-loop-less c = omega arith
-
 loop-again : tie.Need-loop-again Inv-loop μ-loop
 unfolding idleRows some
 loop-again c =
@@ -58,11 +40,11 @@ idle-marks-spec =
     Inv-loop
     μ-loop
     loop-holds
-    mul-idle-row
-    shared-slice-read-idle-row
-    idle-row-requires
-    or-requires
-    add-r
-    loop-less
+    (λ c. omega arith)
+    (λ c. omega arith)
+    (λ c κs. search needs)
+    (λ c κs. search needs)
+    (λ c. omega arith)
+    (λ c. omega arith)
     loop-again
     returns)

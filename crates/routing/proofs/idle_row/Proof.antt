@@ -19,42 +19,9 @@ Inv-loop net n receiver word base found₀ s₀ found s = (found ≡ idleRow (vi
 abbrev μ-loop : tie.MeasureT-loop
 μ-loop net n receiver word base found₀ s₀ found s = n - s
 
-mul-base : tie.Need-mul-base Inv-loop μ-loop
-mul-base c = omega arith
-
-add-base : tie.Need-add-base Inv-loop μ-loop
-add-base c = omega arith
-
 loop-holds : tie.Need-loop-holds Inv-loop μ-loop
 unfolding idleRow some
 loop-holds c = (refl, omega arith)
-
-cast-listed : tie.Need-cast-listed Inv-loop μ-loop
-cast-listed c = omega arith
-
-listed-requires : tie.Need-listed-requires Inv-loop μ-loop
-listed-requires c κs = search needs
-
-add-idle-mark : tie.Need-add-idle-mark Inv-loop μ-loop
-add-idle-mark c = omega arith
-
-mul-idle-mark : tie.Need-mul-idle-mark Inv-loop μ-loop
-mul-idle-mark c = omega arith
-
-shared-slice-read-idle-mark : tie.Need-shared-slice-read-idle-mark Inv-loop μ-loop
-shared-slice-read-idle-mark c = omega arith
-
-idle-mark-requires : tie.Need-idle-mark-requires Inv-loop μ-loop
-idle-mark-requires c κs = search needs
-
-or-requires : tie.Need-or-requires Inv-loop μ-loop
-or-requires c κs = search needs
-
-add-s : tie.Need-add-s Inv-loop μ-loop
-add-s c = omega arith
-
-loop-less : tie.Need-loop-less Inv-loop μ-loop
-loop-less c = omega arith
 
 loop-again : tie.Need-loop-again Inv-loop μ-loop
 unfolding idleRow some
@@ -76,17 +43,17 @@ idle-row-spec =
     (tie.spec
     Inv-loop
     μ-loop
-    mul-base
-    add-base
+    (λ c. omega arith)
+    (λ c. omega arith)
     loop-holds
-    cast-listed
-    listed-requires
-    add-idle-mark
-    mul-idle-mark
-    shared-slice-read-idle-mark
-    idle-mark-requires
-    or-requires
-    add-s
-    loop-less
+    (λ c. omega arith)
+    (λ c κs. search needs)
+    (λ c. omega arith)
+    (λ c. omega arith)
+    (λ c. omega arith)
+    (λ c κs. search needs)
+    (λ c κs. search needs)
+    (λ c. omega arith)
+    (λ c. omega arith)
     loop-again
     returns)

@@ -14,44 +14,8 @@ use Rattle.routing.proofs.Hearing.{primes, unprimed}
 use Rattle.routing.proofs.prime.Statement.{statement}
 use Rattle.routing.proofs.prime.Tie as tie
 
-slice-read-origin : tie.Need-slice-read-origin
-slice-read-origin c = omega arith
-
 cast-at : tie.Need-cast-at
 cast-at c = omega (arith, c .slice-known2 .given 1)
-
-add-net : tie.Need-add-net
-add-net c = omega arith
-
-mul-net : tie.Need-mul-net
-mul-net c = omega arith
-
-slice-write-net : tie.Need-slice-write-net
-slice-write-net c = omega arith
-
-add-net-2 : tie.Need-add-net-2
-add-net-2 c = omega arith
-
-mul-net-2 : tie.Need-mul-net-2
-mul-net-2 c = omega arith
-
-slice-write-net-2 : tie.Need-slice-write-net-2
-slice-write-net-2 c = simp length-set (omega arith)
-
-joined-requires : tie.Need-joined-requires
-joined-requires c κs = search needs
-
-add-net-3 : tie.Need-add-net-3
-add-net-3 c = omega arith
-
-mul-net-3 : tie.Need-mul-net-3
-mul-net-3 c = omega arith
-
-slice-write-net-3 : tie.Need-slice-write-net-3
-slice-write-net-3 c = simp length-set (omega arith)
-
-same-length : tie.Need-same-length
-same-length c = search needs
 
 returns : tie.Need-returns
 returns c =
@@ -72,18 +36,18 @@ pub prime-spec : {M : Type 1} → statement M
 prime-spec =
     tie.close
     (tie.spec
-    slice-read-origin
+    (λ c. omega arith)
     cast-at
-    add-net
-    mul-net
-    slice-write-net
-    add-net-2
-    mul-net-2
-    slice-write-net-2
-    joined-requires
-    add-net-3
-    mul-net-3
-    slice-write-net-3
-    same-length
+    (λ c. omega arith)
+    (λ c. omega arith)
+    (λ c. omega arith)
+    (λ c. omega arith)
+    (λ c. omega arith)
+    (λ c. simp length-set (omega arith))
+    (λ c κs. search needs)
+    (λ c. omega arith)
+    (λ c. omega arith)
+    (λ c. simp length-set (omega arith))
+    (λ c. search needs)
     returns
     returns-2)

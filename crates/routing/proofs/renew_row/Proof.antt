@@ -4,35 +4,11 @@ use borrow.Author.Needs.{needs}
 use mathlib.Core.Path.{ap, _∙_}
 use denote.Ref.{now}
 use Rattle.memory.specs.Layout.{view}
-use Rattle.routing.proofs.Renewing.{route-words, no-route-words, refused-words}
+use Rattle.routing.proofs.Renewing.{route-words, no-route-words, never-refused}
 use Rattle.memory.proofs.Store.{store-row}
 use Rattle.network.specs.Network.{withRow}
 use Rattle.routing.proofs.renew_row.Statement.{statement}
 use Rattle.routing.proofs.renew_row.Tie as tie
-
-choose-row-requires : tie.Need-choose-row-requires
-choose-row-requires c κs = search needs
-
-enum-known-row : tie.Need-enum-known-row
-enum-known-row c = search needs
-
-store-row-requires : tie.Need-store-row-requires
-store-row-requires c κs = search needs
-
-enum-told : tie.Need-enum-told
-enum-told c = search needs
-
-store-row-requires-2 : tie.Need-store-row-requires-2
-store-row-requires-2 c κs = search needs
-
-enum-told-2 : tie.Need-enum-told-2
-enum-told-2 c = search needs
-
-store-row-requires-3 : tie.Need-store-row-requires-3
-store-row-requires-3 c κs = search needs
-
-same-length : tie.Need-same-length
-same-length c = search needs
 
 returns : tie.Need-returns
 returns c =
@@ -43,9 +19,6 @@ returns c =
     (c .before .before .before .before .before .before .before .choose-row .ensures) _ _ _
     (c .before .before .before .before .before .row .given .1))
 
-same-length-2 : tie.Need-same-length-2
-same-length-2 c = search needs
-
 returns-2 : tie.Need-returns-2
 returns-2 c =
     let a = c .before .before .before .before .before .before .before .before .before .args in
@@ -55,14 +28,11 @@ returns-2 c =
     (c .before .before .before .before .before .before .choose-row .ensures)
     (c .before .before .before .before .enum-told .given .1))
 
-same-length-3 : tie.Need-same-length-3
-same-length-3 c = search needs
-
 returns-3 : tie.Need-returns-3
 returns-3 c =
     let a = c .before .before .before .before .before .before .before .before .before .args in
     let x = view (now (a .net)) in
-    c .before .before .store-row3 .ensures ∙ ap (withRow x (a .receiver)) (refused-words (a .n) (λ s. x .cost s (a .receiver))
+    c .before .before .store-row3 .ensures ∙ ap (withRow x (a .receiver)) (never-refused (a .n) (λ s. x .cost s (a .receiver))
     (λ s. x .held s (a .receiver)) (a .receiver) (c .before .before .before .before .before .before .choose-row .result)
     (c .before .before .before .before .before .before .choose-row .ensures)
     (c .before .before .before .before .enum-told2 .given .1))
@@ -71,16 +41,16 @@ pub renew-row-spec : {M : Type 1} → statement M
 renew-row-spec =
     tie.close
     (tie.spec
-    choose-row-requires
-    enum-known-row
-    store-row-requires
-    enum-told
-    store-row-requires-2
-    enum-told-2
-    store-row-requires-3
-    same-length
+    (λ c κs. search needs)
+    (λ c. search needs)
+    (λ c κs. search needs)
+    (λ c. search needs)
+    (λ c κs. search needs)
+    (λ c. search needs)
+    (λ c κs. search needs)
+    (λ c. search needs)
     returns
-    same-length-2
+    (λ c. search needs)
     returns-2
-    same-length-3
+    (λ c. search needs)
     returns-3)

@@ -7,7 +7,7 @@ use mathlib.Core.Path.{_≡_, sym, ap, _∙_}
 use mathlib.Core.Logic.{⊎-elim}
 use lib.ListN.{length}
 use denote.Ref.{now}
-use Rattle.memory.specs.Layout.{words, view}
+use Rattle.memory.specs.Layout.{wordCount, view}
 use Rattle.memory.proofs.Store.{read-first}
 use Rattle.routing.proofs.Renewing.{renewed-none, renewed-origin, renewing-origin, renewing-nodes, renewing-node, renewing-next, renewing-done}
 use Rattle.network.specs.Round.{renewTo}
@@ -15,13 +15,10 @@ use Rattle.routing.proofs.renew_rows.Statement.{statement}
 use Rattle.routing.proofs.renew_rows.Tie as tie
 
 abbrev Inv-loop : tie.InvT-loop
-Inv-loop net₀ n origin r₀ net r = (view net ≡ renewTo r (view net₀)) × (length net ≡ words) × (r ≤ n)
+Inv-loop net₀ n origin r₀ net r = (view net ≡ renewTo r (view net₀)) × (length net ≡ wordCount) × (r ≤ n)
 
 abbrev μ-loop : tie.MeasureT-loop
 μ-loop net₀ n origin r₀ net r = n - r
-
-slice-read-origin : tie.Need-slice-read-origin Inv-loop μ-loop
-slice-read-origin c = omega arith
 
 cast-origin : tie.Need-cast-origin Inv-loop μ-loop
 cast-origin c = omega (arith, c .slice-known2 .given 1)
@@ -47,12 +44,6 @@ renew-row-requires c κs =
         ),
       ),
     )
-
-add-r : tie.Need-add-r Inv-loop μ-loop
-add-r c = omega arith
-
-loop-less : tie.Need-loop-less Inv-loop μ-loop
-loop-less c = omega arith
 
 loop-again : tie.Need-loop-again Inv-loop μ-loop
 loop-again c =
@@ -95,12 +86,12 @@ renew-rows-spec =
     (tie.spec
     Inv-loop
     μ-loop
-    slice-read-origin
+    (λ c. omega arith)
     cast-origin
     loop-holds
     renew-row-requires
-    add-r
-    loop-less
+    (λ c. omega arith)
+    (λ c. omega arith)
     loop-again
     same-length
     returns)

@@ -14,9 +14,6 @@ use Rattle.routing.proofs.round.Tie as tie
 returns : tie.Need-returns
 returns c = let a = c .before .before .args in let w = now (a .net) in round-cut w (now (a .marks)) (c .if1 .taken)
 
-nodes-requires : tie.Need-nodes-requires
-nodes-requires c κs = search needs
-
 stray-marks-requires : tie.Need-stray-marks-requires
 stray-marks-requires c κs =
     (omega (arith, few (now (c .before .before .before .before .args .net)), c .nodes .ensures), c .before .before .if1 .left)
@@ -27,9 +24,6 @@ returns-2 c =
     let w = now (a .net) in
     round-stray w (now (a .marks)) (c .before .before .nodes .result) (c .before .before .nodes .ensures)
     (c .before .before .before .before .if1 .left) (sym (c .before .stray-marks .ensures) ∙ c .if2 .taken)
-
-cast-k : tie.Need-cast-k
-cast-k c = omega arith
 
 idle-marks-requires : tie.Need-idle-marks-requires
 idle-marks-requires c κs =
@@ -113,10 +107,10 @@ round-spec =
     tie.close
     (tie.spec
     returns
-    nodes-requires
+    (λ c κs. search needs)
     stray-marks-requires
     returns-2
-    cast-k
+    (λ c. omega arith)
     idle-marks-requires
     returns-3
     prime-requires

@@ -21,27 +21,6 @@ loop-holds : tie.Need-loop-holds Inv-loop μ-loop
 unfolding strayRows some
 loop-holds c = (refl, omega arith)
 
-cast-stray-row : tie.Need-cast-stray-row Inv-loop μ-loop
-cast-stray-row c = omega arith
-
-mul-stray-row : tie.Need-mul-stray-row Inv-loop μ-loop
-mul-stray-row c = omega arith
-
-shared-slice-read-stray-row : tie.Need-shared-slice-read-stray-row Inv-loop μ-loop
-shared-slice-read-stray-row c = omega arith
-
-stray-row-requires : tie.Need-stray-row-requires Inv-loop μ-loop
-stray-row-requires c κs = search needs
-
-or-requires : tie.Need-or-requires Inv-loop μ-loop
-or-requires c κs = search needs
-
-add-r : tie.Need-add-r Inv-loop μ-loop
-add-r c = omega arith
-
-loop-less : tie.Need-loop-less Inv-loop μ-loop
-loop-less c = omega arith
-
 loop-again : tie.Need-loop-again Inv-loop μ-loop
 unfolding strayRows some
 loop-again c =
@@ -59,12 +38,12 @@ stray-marks-spec =
     Inv-loop
     μ-loop
     loop-holds
-    cast-stray-row
-    mul-stray-row
-    shared-slice-read-stray-row
-    stray-row-requires
-    or-requires
-    add-r
-    loop-less
+    (λ c. omega arith)
+    (λ c. omega arith)
+    (λ c. omega arith)
+    (λ c κs. search needs)
+    (λ c κs. search needs)
+    (λ c. omega arith)
+    (λ c. omega arith)
     loop-again
     returns)

@@ -10,16 +10,10 @@ use Rattle.routing.proofs.stray_row.Tie as tie
 returns : tie.Need-returns
 returns c = let a = c .before .args in stray-word (a .n) (a .receiver) (a .word) (c .before .fits .word .fits) (c .if1 .taken)
 
-listed-requires : tie.Need-listed-requires
-listed-requires c κs = search needs
-
 returns-2 : tie.Need-returns-2
 returns-2 c =
     let a = c .before .before .before .args in
     stray-self (a .n) (a .receiver) (a .word) (omega arith) (sym (c .before .listed .ensures) ∙ c .if2 .taken)
-
-bit-beyond-requires : tie.Need-bit-beyond-requires
-bit-beyond-requires c κs = search needs
 
 returns-3 : tie.Need-returns-3
 returns-3 c =
@@ -29,4 +23,4 @@ returns-3 c =
 
 pub stray-row-spec : {M : Type 1} → statement M
 stray-row-spec =
-    tie.close (tie.spec returns listed-requires returns-2 bit-beyond-requires returns-3)
+    tie.close (tie.spec returns (λ c κs. search needs) returns-2 (λ c κs. search needs) returns-3)

@@ -6,13 +6,13 @@ use mathlib.Core.Path.{_≡_, refl}
 use Prim.Native.Nat.{_≤_, _-_}
 use lib.ListN.{length, take, length-set}
 use denote.Ref.{now}
-use Rattle.records.specs.Numbers.{words}
+use Rattle.records.specs.Numbers.{wordsIn}
 use Rattle.running.proofs.Marks.{none-filled, one-filled, all-filled}
 use Rattle.running.proofs.marks_of.Statement.{statement}
 use Rattle.running.proofs.marks_of.Tie as tie
 
 abbrev Inv-loop : tie.InvT-loop
-Inv-loop body marks₀ i₀ marks i = (i ≤ 32) × (length marks ≡ 32) × (take i marks ≡ words i body)
+Inv-loop body marks₀ i₀ marks i = (i ≤ 32) × (length marks ≡ 32) × (take i marks ≡ wordsIn i body)
 
 abbrev μ-loop : tie.MeasureT-loop
 μ-loop body marks₀ i₀ marks i = 32 - i
@@ -20,30 +20,12 @@ abbrev μ-loop : tie.MeasureT-loop
 loop-holds : tie.Need-loop-holds Inv-loop μ-loop
 loop-holds c = (omega arith, refl, none-filled (now (c .before .args .body)))
 
-mul-word-at : tie.Need-mul-word-at Inv-loop μ-loop
-mul-word-at c = omega arith
-
-word-at-requires : tie.Need-word-at-requires Inv-loop μ-loop
-word-at-requires c κs = omega arith
-
-mul-marks : tie.Need-mul-marks Inv-loop μ-loop
-mul-marks c = search needs
-
-array-write-marks : tie.Need-array-write-marks Inv-loop μ-loop
-array-write-marks c = search needs
-
-add-i : tie.Need-add-i Inv-loop μ-loop
-add-i c = omega arith
-
-loop-less : tie.Need-loop-less Inv-loop μ-loop
-loop-less c = omega arith
-
 loop-again : tie.Need-loop-again Inv-loop μ-loop
 loop-again c =
     let l = c .before .before .loop in (
       omega arith,
       simp length-set (l .inv .1),
-      one-filled (now (c .before .before .before .before .args .body)) _ _ _ (omega arith) (l .inv .2) (c .word-at .ensures),
+      one-filled (now (c .before .before .before .before .args .body)) _ _ _ (omega arith) (l .inv .2) (c .word .ensures),
     )
 
 returns : tie.Need-returns Inv-loop μ-loop
@@ -52,15 +34,5 @@ returns c = all-filled (now (c .before .before .before .args .body)) _ _ (omega 
 pub marks-of-spec : {M : Type 1} → statement M
 marks-of-spec =
     tie.close
-    (tie.spec
-    Inv-loop
-    μ-loop
-    loop-holds
-    mul-word-at
-    word-at-requires
-    mul-marks
-    array-write-marks
-    add-i
-    loop-less
-    loop-again
+    (tie.spec Inv-loop μ-loop loop-holds (λ c. omega arith) (λ c κs. search needs) (λ c. search needs) (λ c. search needs) (λ c. omega arith) (λ c. omega arith) loop-again
     returns)

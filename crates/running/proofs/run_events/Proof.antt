@@ -2,7 +2,7 @@
 -- Assumes nothing.
 use borrow.Author.Needs.{needs}
 use native.Mathlib.Omega.{arith}
-use Prim.Native.Nat.{_-_}
+use Prim.Native.Nat.{_+_, _-_, _<_, _≤_}
 use lib.ListN.{length}
 use denote.Ref.{now}
 use Rattle.memory.specs.Layout.{view}
@@ -21,9 +21,6 @@ loop-holds : tie.Need-loop-holds Inv-loop μ-loop
 loop-holds c =
     let a = c .before .args in begin (now (a .input)) (view (now (a .net))) (a .start) (c .before .pre)
 
-event-record-requires : tie.Need-event-record-requires Inv-loop μ-loop
-event-record-requires c κs = search needs
-
 do-event-requires : tie.Need-do-event-requires Inv-loop μ-loop
 do-event-requires c κs =
     let a = c .before .before .before .before .before .args in
@@ -31,65 +28,40 @@ do-event-requires c κs =
 
 returns : tie.Need-returns Inv-loop μ-loop
 returns c =
-    let a = c .before .before .before .before .before .before .before .before .args in
-    let l = c .before .before .before .before .before .before .loop in
-    let r = c .before .before .before .before .event-record in
-    let d = c .before .before .do-event in
-    at-stop (l .inv) (omega arith) (r .ensures) (d .ensures) (c .if1 .taken)
+    at-stop (c .before .before .before .before .before .before .loop .inv) (omega arith) (c .before .before .before .before .event-record .ensures)
+    (c .before .before .do-event .ensures) (c .if1 .taken)
 
-add-rounds : tie.Need-add-rounds Inv-loop μ-loop
-add-rounds c =
+-- after an accepted event: the rest, and a record that has a byte and lies inside the input
+abbrev GoesOn : tie.After-struct-known2 Inv-loop μ-loop → Type 0
+GoesOn c =
     let a = c .before .before .before .before .before .before .before .before .before .args in
     let l = c .before .before .before .before .before .before .before .loop in
-    let r = c .before .before .before .before .before .event-record in
+    let r = c .before .before .before .before .before .event-record .result in
     let d = c .before .before .before .do-event in
-    let m = at-next (l .inv) (omega arith) (r .ensures) (d .ensures) (c .before .if1 .left) in
-    omega (arith, m .0 .few, m .2)
+    Rest (now (a .input)) (eventsFrom (now (a .input)) (view (now (a .net))) (a .start)) (view (d .last .0)) (l .rounds + d .result .rounds) (l .at + r .used)
+    × (0 < r .used) × (l .at + r .used ≤ length (now (a .input)))
+
+goes-on : (c : tie.After-struct-known2 Inv-loop μ-loop) → GoesOn c
+goes-on c =
+    at-next (c .before .before .before .before .before .before .before .loop .inv) (omega arith) (c .before .before .before .before .before .event-record .ensures)
+    (c .before .before .before .do-event .ensures) (c .before .if1 .left)
+
+add-rounds : tie.Need-add-rounds Inv-loop μ-loop
+add-rounds c = omega (arith, goes-on c .0 .few, goes-on c .2)
 
 add-at : tie.Need-add-at Inv-loop μ-loop
-add-at c =
-    let a = c .before .before .before .before .before .before .before .before .before .before .args in
-    let l = c .before .before .before .before .before .before .before .before .loop in
-    let r = c .before .before .before .before .before .before .event-record in
-    let d = c .before .before .before .before .do-event in
-    let m = at-next (l .inv) (omega arith) (r .ensures) (d .ensures) (c .before .before .if1 .left) in
-    omega (arith, m .2, c .before .before .before .before .before .before .before .before .before .before .good .1 .0 .0)
+add-at c = omega (arith, goes-on (c .before) .2, c .before .before .before .before .before .before .before .before .before .before .good .1 .0 .0)
 
 loop-less : tie.Need-loop-less Inv-loop μ-loop
-loop-less c =
-    let a = c .before .before .before .before .before .before .before .before .before .before .args in
-    let l = c .before .before .before .before .before .before .before .before .loop in
-    let r = c .before .before .before .before .before .before .event-record in
-    let d = c .before .before .before .before .do-event in
-    let m = at-next (l .inv) (omega arith) (r .ensures) (d .ensures) (c .before .before .if1 .left) in
-    omega (arith, m .1, m .2)
+loop-less c = omega (arith, goes-on (c .before) .1, goes-on (c .before) .2)
 
 loop-again : tie.Need-loop-again Inv-loop μ-loop
-loop-again c =
-    let a = c .before .before .before .before .before .before .before .before .before .before .args in
-    let l = c .before .before .before .before .before .before .before .before .loop in
-    let r = c .before .before .before .before .before .before .event-record in
-    let d = c .before .before .before .before .do-event in
-    at-next (l .inv) (omega arith) (r .ensures) (d .ensures) (c .before .before .if1 .left) .0
+loop-again c = goes-on (c .before) .0
 
 returns-2 : tie.Need-returns-2 Inv-loop μ-loop
-returns-2 c =
-    let a = c .before .before .before .args in
-    let l = c .before .loop in
-    at-end (l .inv) (omega arith)
+returns-2 c = at-end (c .before .loop .inv) (omega arith)
 
 pub run-events-spec : {M : Type 1} → statement M
 run-events-spec =
     tie.close
-    (tie.spec
-    Inv-loop
-    μ-loop
-    loop-holds
-    event-record-requires
-    do-event-requires
-    returns
-    add-rounds
-    add-at
-    loop-less
-    loop-again
-    returns-2)
+    (tie.spec Inv-loop μ-loop loop-holds (λ c κs. search needs) do-event-requires returns add-rounds add-at loop-less loop-again returns-2)

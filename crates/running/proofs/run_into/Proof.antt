@@ -5,9 +5,6 @@ use Rattle.running.proofs.Whole.{events-inside, image-refused, events-f
 use Rattle.running.proofs.run_into.Statement.{statement}
 use Rattle.running.proofs.run_into.Tie as tie
 
-open-into-requires : tie.Need-open-into-requires
-open-into-requires c κs = search needs
-
 returns : tie.Need-returns
 returns c = image-refused _ _ _ _ _ (c .before .before .open-into .ensures) (c .if1 .taken)
 
@@ -20,4 +17,4 @@ returns-2 c =
     (c .run-events .last .0) (c .run-events .ensures)
 
 pub run-into-spec : {M : Type 1} → statement M
-run-into-spec = tie.close (tie.spec open-into-requires returns run-events-requires returns-2)
+run-into-spec = tie.close (tie.spec (λ c κs. search needs) returns run-events-requires returns-2)

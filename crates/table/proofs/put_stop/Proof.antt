@@ -1,53 +1,41 @@
--- `table::put_stop` meets its contract: the number, and the place.
+-- `table::put_stop` meets its contract: a refusal's number and place, where there was one.
 -- Assumes nothing.
 use borrow.Author.Needs.{needs}
-use Rattle.table.specs.Text.{stopLine}
-use Rattle.table.proofs.Filling.{filled-then}
+use native.Mathlib.Omega.{arith}
+use borrow.Author.Tests.{eq-eqb, ne-eqb}
+use denote.Ref.{now}
+use Rattle.filling.proofs.Parts.{added-none}
+use Rattle.table.specs.Text.{field, stopLine, lastLine}
+use Rattle.table.proofs.Filling.{filled-as, filled-on}
 use Rattle.table.proofs.put_stop.Statement.{statement}
 use Rattle.table.proofs.put_stop.Tie as tie
 
-slice-aggregate-put-named : tie.Need-slice-aggregate-put-named
-slice-aggregate-put-named c = search needs
-
-put-named-requires : tie.Need-put-named-requires
-put-named-requires c κs = search needs
-
-slice-aggregate-put-named-line : tie.Need-slice-aggregate-put-named-line
-slice-aggregate-put-named-line c = search needs
-
-sub-put-named-line : tie.Need-sub-put-named-line
-sub-put-named-line c = search needs
-
-part-put-named-line-start : tie.Need-part-put-named-line-start
-part-put-named-line-start c = search needs
-
-part-put-named-line-end : tie.Need-part-put-named-line-end
-part-put-named-line-end c = search needs
-
-put-named-line-requires : tie.Need-put-named-line-requires
-put-named-line-requires c κs = search needs
-
-add-result : tie.Need-add-result
-add-result c = search needs
-
-same-length : tie.Need-same-length
-same-length c = search needs
-
 returns : tie.Need-returns
-unfolding stopLine
-returns c = filled-then (c .before .before .before .before .before .before .before .put-named .ensures) (c .before .before .put-named-line .ensures)
+unfolding lastLine
+returns c =
+    let a = c .before .before .args in
+    record { added = added-none (now (a .out)) (a .at) (rw (eq-eqb (a .number) 0 (c .if1 .taken))) (omega arith); most = omega arith }
+
+returns-2 : tie.Need-returns-2
+unfolding lastLine stopLine field
+returns-2 c =
+    let end = c .before .before in
+    let place = end .before .before .before .before .before in
+    let number = place .before .before .before .before .before in
+    let test = number .before .before .before in
+    filled-as (rw (ne-eqb (test .before .before .args .number) 0 (test .if1 .left))) (omega arith)
+    (filled-on (number .put-number .ensures) (filled-on (place .put-number2 .ensures) (end .put-text .ensures)))
 
 pub put-stop-spec : {M : Type 1} → statement M
 put-stop-spec =
     tie.close
     (tie.spec
-    slice-aggregate-put-named
-    put-named-requires
-    slice-aggregate-put-named-line
-    sub-put-named-line
-    part-put-named-line-start
-    part-put-named-line-end
-    put-named-line-requires
-    add-result
-    same-length
-    returns)
+    returns
+    (λ c. search needs)
+    (λ c κs. omega arith)
+    (λ c. search needs)
+    (λ c κs. omega arith)
+    (λ c. search needs)
+    (λ c κs. omega arith)
+    (λ c. search needs)
+    returns-2)

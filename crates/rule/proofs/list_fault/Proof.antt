@@ -1,0 +1,19 @@
+-- `rule::list_fault` meets its contract, test by test.
+-- Assumes nothing.
+use borrow.Author.Needs.{needs}
+use mathlib.Core.Path.{ap}
+use mathlib.Core.Bool.{not}
+use Rattle.network.specs.Faults.{listFault}
+use Rattle.rule.proofs.list_fault.Statement.{statement}
+use Rattle.rule.proofs.list_fault.Tie as tie
+
+returns : tie.Need-returns
+unfolding listFault
+returns c = rw (← (c .before .bit-beyond .ensures), c .if1 .taken)
+
+returns-2 : tie.Need-returns-2
+unfolding listFault
+returns-2 c = rw (← (c .before .before .bit-beyond .ensures), c .before .if1 .left) (ap not (c .listed .ensures))
+
+pub list-fault-spec : {M : Type 1} → statement M
+list-fault-spec = tie.close (tie.spec (λ c κs. search needs) returns (λ c κs. search needs) returns-2)
