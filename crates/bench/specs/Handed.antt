@@ -4,6 +4,7 @@ use mathlib.Core.Path.{_≡_}
 use mathlib.Core.List.{List, [], _∷_}
 use Prim.Native.Nat.{ℕ}
 use lib.ListN.{getD}
+use Rattle.network.specs.Faults.{maxNodes}
 use Rattle.network.specs.Network.{Row, none, root, via, Report, empty, told}
 use Rattle.network.specs.Writing.{Writing}
 use Rattle.memory.specs.Layout.{view}
@@ -27,8 +28,8 @@ pub record WritesTo (w : Writing) (answer exit : List ℕ) : Type 0 where
 
 -- number, label, predecessor, list, hops: without a route, also where it is refused, 0, 32 and 0; at the origin 0, 32 and its list; 32 is no node
 unfoldable pub routeWords : ℕ → Row → ℕ → List ℕ
-routeWords k none h = k ∷ 0 ∷ 32 ∷ 0 ∷ h ∷ []
-routeWords k (root l) h = k ∷ 0 ∷ 32 ∷ l ∷ h ∷ []
+routeWords k none h = k ∷ 0 ∷ maxNodes ∷ 0 ∷ h ∷ []
+routeWords k (root l) h = k ∷ 0 ∷ maxNodes ∷ l ∷ h ∷ []
 routeWords k (via d p l) h = k ∷ d ∷ p ∷ l ∷ h ∷ []
 
 unfoldable pub rowWords : RowAnswer → List ℕ

@@ -128,13 +128,16 @@ pub extern "C" fn bench_route(net: &Network, node: u32, out: &mut [u8], answer: 
 
 // ---- reading
 
+// Stands for a predecessor where there is none.
+const NO_NODE: u64 = network::MAX_NODES as u64;
+
 fn row_words(read: RowRead) -> [u64; 5]
     ensures { λ r. ⌜ r ≡ rowWords (rowMeans read) ⌝ }
 {
     match read {
-        RowRead::Refused => [3, 0, 32, 0, 0],
-        RowRead::NoRoute => [0, 0, 32, 0, 0],
-        RowRead::Origin { list, hops } => [0, 0, 32, list as u64, hops as u64],
+        RowRead::Refused => [3, 0, NO_NODE, 0, 0],
+        RowRead::NoRoute => [0, 0, NO_NODE, 0, 0],
+        RowRead::Origin { list, hops } => [0, 0, NO_NODE, list as u64, hops as u64],
         RowRead::Route {
             label,
             predecessor,

@@ -24,13 +24,13 @@ use network::Written;
 // The bytes of a record of each kind: its kind byte and its body.
 const END_LENGTH: usize = 1;
 
-const HEADER_LENGTH: usize = 1 + 2;
+const HEADER_LENGTH: usize = 1 + records::HEADER_BODY;
 
-const ARC_LENGTH: usize = 1 + 4;
+const ARC_LENGTH: usize = 1 + records::ARC_BODY;
 
-const ROW_LENGTH: usize = 1 + 10;
+const ROW_LENGTH: usize = 1 + records::ROW_BODY;
 
-const REPORT_LENGTH: usize = 1 + 10;
+const REPORT_LENGTH: usize = 1 + records::REPORT_BODY;
 
 // The first and the last record of an image.
 const ENDS_LENGTH: usize = HEADER_LENGTH + END_LENGTH;

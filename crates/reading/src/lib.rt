@@ -129,19 +129,6 @@ fn grade_body(b: &[u8], at: usize) -> Event
 
 // ---- records; a short body is refused as 1, and a whole one is handed on as the part that follows the kind byte
 
-// The body bytes of each kind that has a body.
-const HEADER_BYTES: usize = 2;
-
-const ARC_BYTES: usize = 4;
-
-const ROW_BYTES: usize = 10;
-
-const REPORT_BYTES: usize = 10;
-
-const ROUND_BYTES: usize = 128;
-
-const GRADE_BYTES: usize = 3;
-
 // A record refused before its body is read.
 fn refused(number: u8, at: usize) -> Record
     ensures { λ r. ⌜ r ≡ refusedRecord number at ⌝ }
@@ -158,12 +145,12 @@ fn header_record(input: &[u8], at: usize) -> Record
     ensures { λ r. ⌜ r ≡ bodied at 1 (drop (at + 1) (now (input .entry))) ⌝ }
 {
     let start = at + 1;
-    if input.len() - start < HEADER_BYTES {
+    if input.len() - start < records::HEADER_BODY {
         return refused(1, at);
     }
     Record {
-        event: header_body(&input[start..start + HEADER_BYTES]),
-        used: 1 + HEADER_BYTES,
+        event: header_body(&input[start..start + records::HEADER_BODY]),
+        used: 1 + records::HEADER_BODY,
     }
 }
 
@@ -173,12 +160,12 @@ fn arc_record(input: &[u8], at: usize) -> Record
     ensures { λ r. ⌜ r ≡ bodied at 2 (drop (at + 1) (now (input .entry))) ⌝ }
 {
     let start = at + 1;
-    if input.len() - start < ARC_BYTES {
+    if input.len() - start < records::ARC_BODY {
         return refused(1, at);
     }
     Record {
-        event: arc_body(&input[start..start + ARC_BYTES]),
-        used: 1 + ARC_BYTES,
+        event: arc_body(&input[start..start + records::ARC_BODY]),
+        used: 1 + records::ARC_BODY,
     }
 }
 
@@ -188,12 +175,12 @@ fn row_record(input: &[u8], at: usize) -> Record
     ensures { λ r. ⌜ r ≡ bodied at 3 (drop (at + 1) (now (input .entry))) ⌝ }
 {
     let start = at + 1;
-    if input.len() - start < ROW_BYTES {
+    if input.len() - start < records::ROW_BODY {
         return refused(1, at);
     }
     Record {
-        event: row_body(&input[start..start + ROW_BYTES]),
-        used: 1 + ROW_BYTES,
+        event: row_body(&input[start..start + records::ROW_BODY]),
+        used: 1 + records::ROW_BODY,
     }
 }
 
@@ -203,12 +190,12 @@ fn report_record(input: &[u8], at: usize) -> Record
     ensures { λ r. ⌜ r ≡ bodied at 4 (drop (at + 1) (now (input .entry))) ⌝ }
 {
     let start = at + 1;
-    if input.len() - start < REPORT_BYTES {
+    if input.len() - start < records::REPORT_BODY {
         return refused(1, at);
     }
     Record {
-        event: report_body(&input[start..start + REPORT_BYTES]),
-        used: 1 + REPORT_BYTES,
+        event: report_body(&input[start..start + records::REPORT_BODY]),
+        used: 1 + records::REPORT_BODY,
     }
 }
 
@@ -218,12 +205,12 @@ fn round_record(input: &[u8], at: usize) -> Record
     ensures { λ r. ⌜ r ≡ bodied at 5 (drop (at + 1) (now (input .entry))) ⌝ }
 {
     let start = at + 1;
-    if input.len() - start < ROUND_BYTES {
+    if input.len() - start < records::ROUND_BODY {
         return refused(1, at);
     }
     Record {
         event: Event::Round,
-        used: 1 + ROUND_BYTES,
+        used: 1 + records::ROUND_BODY,
     }
 }
 
@@ -233,12 +220,12 @@ fn grade_record(input: &[u8], at: usize) -> Record
     ensures { λ r. ⌜ r ≡ bodied at 7 (drop (at + 1) (now (input .entry))) ⌝ }
 {
     let start = at + 1;
-    if input.len() - start < GRADE_BYTES {
+    if input.len() - start < records::GRADE_BODY {
         return refused(1, at);
     }
     Record {
-        event: grade_body(&input[start..start + GRADE_BYTES], at),
-        used: 1 + GRADE_BYTES,
+        event: grade_body(&input[start..start + records::GRADE_BODY], at),
+        used: 1 + records::GRADE_BODY,
     }
 }
 

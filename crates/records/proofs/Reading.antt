@@ -7,7 +7,7 @@ use mathlib.Core.List.{List, [], _∷_}
 use Prim.Native.Nat.{ℕ, zero, suc, _<_, _≤_}
 use native.Mathlib.Omega.{arith}
 use lib.Dec.{ltb}
-use lib.ListN.{length, take}
+use lib.ListN.{length}
 use borrow.Author.Tests.{lt-ltb, le-ltb, ne-eqb, ltb-false}
 use Rattle.ancestors.proofs.Cases.{bool-cases, le-or-lt, eq-or-ne, never, cond-by}
 use Rattle.network.specs.Faults.{gradeFault}
@@ -179,7 +179,8 @@ expected z at bs e q =
 -- ---- a round
 
 -- its record lies within the bytes
-pub round-fits : (at : ℕ) (bs : List ℕ) → recordOf asEvent at bs .event ≡ Round → 129 ≤ length bs
+pub round-fits : (at : ℕ) (bs : List ℕ) → recordOf asEvent at bs .event ≡ Round → recordLength 5 ≤ length bs
+unfolding bodyLength
 round-fits at bs q = omega (arith, expected asEvent at bs Round q, length-within asEvent at bs)
 
 -- no other kind gives a round
@@ -189,12 +190,11 @@ round-only at b =
     by-allowed asEvent (λ k. eventOf at k b ≡ Round → k ≡ 5)
     (tt & (λ q. cc) & (λ _. refl) & (λ q. cc) & cond-by (λ (e : Event). e ≡ Round → _≡_ {A = ℕ} 7 5) (gradeFault _) _ _ (λ _ q. cc) (λ _ q. cc))
 
--- it is of kind 5, and its body is 128 bytes
+-- it is of kind 5, and its body is that of kind 5
 round-five : (at k : ℕ) (b : List ℕ) → recordOf asEvent at (k ∷ b) .event ≡ Round → k ≡ 5
 round-five at k b =
     by-outcome (λ r. r .event ≡ Round → k ≡ 5) asEvent at (k ∷ b) (λ q. cc) (λ q. cc)
     (λ j c e a _ q. let o = round-only at (bodyOf j c) j a q in cc)
 
-pub round-body : (at k : ℕ) (b : List ℕ) → recordOf asEvent at (k ∷ b) .event ≡ Round → bodyOf k b ≡ take 128 b
-unfolding bodyOf bodyLength
+pub round-body : (at k : ℕ) (b : List ℕ) → recordOf asEvent at (k ∷ b) .event ≡ Round → bodyOf k b ≡ bodyOf 5 b
 round-body at k b q = rw (round-five at k b q)

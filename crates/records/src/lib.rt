@@ -1,4 +1,17 @@
-// State files: what reading a record finds. Definitions in specs/, the acceptance theorem in proofs/. There are no functions.
+// State files: the bytes of each kind, and what reading a record finds. Definitions in specs/, the acceptance theorem in proofs/. There are no functions.
+
+// The body bytes of each kind that has a body.
+pub const HEADER_BODY: usize = 2;
+
+pub const ARC_BODY: usize = 4;
+
+pub const ROW_BODY: usize = 10;
+
+pub const REPORT_BODY: usize = 10;
+
+pub const ROUND_BODY: usize = 128;
+
+pub const GRADE_BODY: usize = 3;
 
 // A change of an arc.
 pub enum ArcChange {

@@ -6,7 +6,7 @@ use mathlib.Core.List.{List, _∷_}
 use Prim.Native.Nat.{ℕ, zero, suc, _+_, _-_, _<_, _≤_}
 use native.Mathlib.Omega.{arith}
 use native.Mathlib.Numerals.{add-one}
-use lib.ListN.{length, getD, take, drop, length-drop, drop-of-length-le}
+use lib.ListN.{length, getD, drop, length-drop, drop-of-length-le}
 use lib.Seq.{drop-cons, drop-drop}
 use Rattle.network.specs.Network.{Net}
 use Rattle.memory.specs.Layout.{view}
@@ -45,12 +45,12 @@ round-at s at r e q =
 abbrev stepped : ℕ → Net → ℕ → ℕ → List ℕ → List ℕ → Running
 stepped g x rounds at b t =
     let r : Record = recordOf asEvent at t in
-    afterEvent (λ z. readEvents g z (rounds + roundsIn (r .event)) (at + r .used) (drop (r .used) t)) at rounds (eventDone x (take 128 b) (r .event))
+    afterEvent (λ z. readEvents g z (rounds + roundsIn (r .event)) (at + r .used) (drop (r .used) t)) at rounds (eventDone x (bodyOf 5 b) (r .event))
 
 -- so the definition reads
 cons-step : (g : ℕ) (x : Net) (rounds at kind : ℕ) (b : List ℕ) → readEvents (suc g) x rounds at (kind ∷ b) ≡ stepped g x rounds at b (kind ∷ b)
 unfolding readEvents
-cons-step g x rounds at kind b = ap (afterEvent _ at rounds) (same-body x (bodyOf kind b) (take 128 b) _ (round-body at kind b))
+cons-step g x rounds at kind b = ap (afterEvent _ at rounds) (same-body x (bodyOf kind b) (bodyOf 5 b) _ (round-body at kind b))
 
 -- and so at a place of the input
 step-at : (s : List ℕ) (g : ℕ) (x : Net) (rounds at : ℕ) → at < length s → readEvents (suc g) x rounds at (drop at s) ≡ stepped g x rounds at (drop (at + 1) s) (drop at s)

@@ -3,9 +3,10 @@
 use mathlib.Core.Path.{_≡_}
 use mathlib.Core.List.{List}
 use Prim.Native.Nat.{ℕ, _+_, _≤_}
-use lib.ListN.{length, take, drop}
+use lib.ListN.{length, drop}
 use Rattle.network.specs.Network.{Net}
 use Rattle.memory.specs.Layout.{view}
+use Rattle.records.specs.Records.{recordLength, bodyOf}
 use Rattle.records.specs.Running.{Running, readEvents}
 use Rattle.records.specs.declared.Event.{Event}
 use Rattle.records.specs.declared.Event.the-variants.{Round}
@@ -13,11 +14,11 @@ use Rattle.running.specs.declared.Finish.{Finish}
 
 -- the body of a round whose record lies at `at`
 abbrev pub marksAt : ℕ → List ℕ → List ℕ
-marksAt at s = take 128 (drop (at + 1) s)
+marksAt at s = bodyOf 5 (drop (at + 1) s)
 
 -- a round's record lies inside the input
 abbrev pub Inside : Event → ℕ → List ℕ → Type 0
-Inside e at s = e ≡ Round → at + 129 ≤ length s
+Inside e at s = e ≡ Round → at + recordLength 5 ≤ length s
 
 -- the events of the input s from the place `at` on
 abbrev pub eventsFrom : List ℕ → Net → ℕ → Running

@@ -54,6 +54,9 @@ fn change_arc(net: &mut Network, change: ArcChange) -> u8
     }
 }
 
+// The bytes of a marked round's record: its kind byte and its body.
+const ROUND_LENGTH: usize = 1 + records::ROUND_BODY;
+
 // What an event did: 0 or the number with which the run stops, and the rounds for which it counts if it is accepted.
 struct Done {
     number: u8,
@@ -71,7 +74,7 @@ fn do_event(net: &mut Network, input: &[u8], at: usize, event: Event) -> Done
             Done { number, rounds: 1 }
         }
         Event::Round => {
-            let number = mark_round(net, &input[at + 1..at + 129]);
+            let number = mark_round(net, &input[at + 1..at + ROUND_LENGTH]);
             Done { number, rounds: 1 }
         }
         Event::Change(change) => {

@@ -6,18 +6,21 @@ use mathlib.Core.Path.{_≡_, ap}
 use Prim.Native.Nat.{_+_, _-_, _≤_}
 use lib.ListN.{length, take, drop}
 use denote.Ref.{now}
+use Rattle.records.specs.Records.{bodyLength, bodyOf}
 use Rattle.running.proofs.Events.{does-full-round, does-round, does-change, does-refusal, does-other}
 use Rattle.running.proofs.do_event.Statement.{statement}
 use Rattle.running.proofs.do_event.Tie as tie
 
 -- a round's record lies inside the input
 inside : (c : tie.After-mark-round-arg) → c .before .before .before .before .args .at + 129 ≤ length (now (c .before .before .before .before .args .input))
+unfolding bodyLength
 inside c = c .before .before .before .before .pre (c .before .enum-told2 .given .1)
 
 returns : tie.Need-returns
 returns c = does-full-round _ (c .before .before .enum-told .given .1) (c .full-round .ensures)
 
 returns-2 : tie.Need-returns-2
+unfolding bodyLength bodyOf
 returns-2 c =
     let a = c .before .before .before .before .before .before .args in
     let n : a .at + 129 - (a .at + 1) ≡ 128 = omega arith in
