@@ -5,11 +5,12 @@ use mathlib.Core.Path.{_≡_, refl, sym, ap, ap₂, _∙_}
 use mathlib.Core.Bool.{false}
 use mathlib.Core.Logic.{_⊎_, inl, inr, _≢_}
 use Prim.Native.Nat.{ℕ, _+_, _<_, _≤_}
+use lib.Count.{ones}
 use Rattle.ancestors.specs.Ancestors.{has, put}
 use Rattle.ancestors.proofs.Cases.{eq-or-ne, clash}
 use Rattle.network.specs.Faults.{maxLabel}
 use Rattle.network.specs.Network.{root, via, Report, told}
-use Rattle.network.specs.Round.{offer, Winner, nobody, sender, winner, listOf, rowBy, choice}
+use Rattle.network.specs.Round.{offer, listOf, onesIn, Winner, nobody, sender, winner, rowBy, choice}
 use Rattle.network.specs.declared.Offer.{Offer}
 use Rattle.network.specs.declared.Offer.the-variants.{Sum}
 use Rattle.network.proofs.Offers.{nothing-sum, made, makes, before-once, Won, no-one, some-one, won, winner-ext}
@@ -22,16 +23,19 @@ module _ (n : ℕ) (cost : ℕ → ℕ) (held : ℕ → Report) (y : ℕ) where
     pub offered : Made y (cost p) (held p) d
     pub list : l ≡ put (offered .list) y
 
-  -- what sender s offers y
+  -- what sender s offers y, and the ones of its report
   abbrev offered-by : ℕ → Offer
   offered-by s = offer y (cost s) (held s)
+
+  abbrev ones-by : ℕ → ℕ
+  ones-by s = onesIn (held s)
 
   -- the same of whoever won, before the choice is put together
   came-from : (s u : ℕ) → s < n → Made y (cost s) (held s) u → Came u s (put (listOf (held s)) y)
   unfolding listOf
   came-from s u b m = record { below = b; offered = m; list = rw (m .is) }
 
-  came-by : (w : Winner) → Won offered-by n w → (d p l : ℕ) → rowBy y held w ≡ via d p l → Came d p l
+  came-by : (w : Winner) → Won offered-by ones-by n w → (d p l : ℕ) → rowBy y held w ≡ via d p l → Came d p l
   unfolding rowBy
   came-by nobody h d p l e = clash cc
   came-by (sender s u) (some-one b q best) d p l e =
@@ -45,8 +49,8 @@ module _ (n : ℕ) (cost : ℕ → ℕ) (held : ℕ → Report) (y : ℕ) where
   no-root-by nobody l e = clash cc
   no-root-by (sender s u) l e = clash cc
 
-  wins-by : (w : Winner) → Won offered-by n w → (s e l : ℕ) → s < n → held s ≡ told e l → offered-by s ≡ Sum (e + cost s) →
-      ((r v : ℕ) → r < n → r ≢ s → Made y (cost r) (held r) v → Before (e + cost s) s v r) → rowBy y held w ≡ via (e + cost s) s (put l y)
+  wins-by : (w : Winner) → Won offered-by ones-by n w → (s e l : ℕ) → s < n → held s ≡ told e l → offered-by s ≡ Sum (e + cost s) →
+      ((r v : ℕ) → r < n → r ≢ s → (m : Made y (cost r) (held r) v) → Before (e + cost s) (ones l) s v (ones (m .list)) r) → rowBy y held w ≡ via (e + cost s) s (put l y)
   unfolding rowBy listOf
   wins-by nobody (no-one k) s e l b h q best = nothing-sum (offered-by s) (k s b) q
   wins-by (sender r u) (some-one below its low) s e l b h q best = go (eq-or-ne r s)
@@ -56,31 +60,34 @@ module _ (n : ℕ) (cost : ℕ → ℕ) (held : ℕ → Report) (y : ℕ) where
           let its′ : offered-by s ≡ Sum u = rw k at its in
           let same : u ≡ e + cost s = cc in
           rw (k, same, h)
-      go (inr k) = absurd (before-once (best r u below k (made y (cost r) (held r) u its)) (low s (e + cost s) b (λ j. k (sym j)) q))
+      go (inr k) =
+          let m = made y (cost r) (held r) u its in
+          let after : Before u (ones (m .list)) r (e + cost s) (ones l) s = rw (m .is, h) at (low s (e + cost s) b (λ j. k (sym j)) q) in
+          absurd (before-once (best r u below k m) after)
 
   -- a chosen row with a route comes from the report of its predecessor
   pub came : (d p l : ℕ) → choice n cost held y ≡ via d p l → Came d p l
   unfolding choice
-  came d p l e = came-by (winner offered-by n) (won offered-by n) d p l e
+  came d p l e = came-by (winner offered-by ones-by n) (won offered-by ones-by n) d p l e
 
   -- a chosen row is never the origin's
   pub choice-no-root : (l : ℕ) → choice n cost held y ≡ root l → ⊥
   unfolding choice
-  choice-no-root l e = no-root-by (winner offered-by n) l e
+  choice-no-root l e = no-root-by (winner offered-by ones-by n) l e
 
   -- the row that the offer before all others makes
   pub wins : (s e l : ℕ) → s < n → held s ≡ told e l → has l y ≡ false → e + cost s ≤ maxLabel →
-      ((r v : ℕ) → r < n → r ≢ s → Made y (cost r) (held r) v → Before (e + cost s) s v r) →
+      ((r v : ℕ) → r < n → r ≢ s → (m : Made y (cost r) (held r) v) → Before (e + cost s) (ones l) s v (ones (m .list)) r) →
       choice n cost held y ≡ via (e + cost s) s (put l y)
   unfolding choice
   wins s e l b h apart fits best =
-      wins-by (winner offered-by n) (won offered-by n) s e l b h (rw h (makes y (cost s) e l apart fits)) best
+      wins-by (winner offered-by ones-by n) (won offered-by ones-by n) s e l b h (rw h (makes y (cost s) e l apart fits)) best
 
-rowBy-ext : (y : ℕ) (held held′ : ℕ → Report) (n : ℕ) (f : ℕ → Offer) (w : Winner) → Won f n w → ((s : ℕ) → s < n → held s ≡ held′ s) →
+rowBy-ext : (y : ℕ) (held held′ : ℕ → Report) (n : ℕ) (f : ℕ → Offer) (c : ℕ → ℕ) (w : Winner) → Won f c n w → ((s : ℕ) → s < n → held s ≡ held′ s) →
     rowBy y held w ≡ rowBy y held′ w
 unfolding rowBy
-rowBy-ext y held held′ n f nobody h e = refl
-rowBy-ext y held held′ n f (sender s u) (some-one b q best) e = ap (λ r. via u s (put (listOf r) y)) (e s b)
+rowBy-ext y held held′ n f c nobody h e = refl
+rowBy-ext y held held′ n f c (sender s u) (some-one b q best) e = ap (λ r. via u s (put (listOf r) y)) (e s b)
 
 -- the choice depends on the costs and held reports of the senders below n alone
 pub choice-ext : (n : ℕ) (cost cost′ : ℕ → ℕ) (held held′ : ℕ → Report) (y : ℕ) →
@@ -89,4 +96,7 @@ unfolding choice
 choice-ext n cost cost′ held held′ y c h =
     let f : ℕ → Offer = λ s. offer y (cost s) (held s) in
     let g : ℕ → Offer = λ s. offer y (cost′ s) (held′ s) in
-    rowBy-ext y held held′ n f (winner f n) (won f n) h ∙ ap (rowBy y held′) (winner-ext f g n (λ s b. ap₂ (offer y) (c s b) (h s b)))
+    let i : ℕ → ℕ = λ s. onesIn (held s) in
+    let j : ℕ → ℕ = λ s. onesIn (held′ s) in
+    rowBy-ext y held held′ n f i (winner f i n) (won f i n) h ∙
+    ap (rowBy y held′) (winner-ext f g i j n (λ s b. ap₂ (offer y) (c s b) (h s b)) (λ s b. ap onesIn (h s b)))

@@ -5,6 +5,7 @@ use mathlib.Core.List.{List}
 use Prim.Native.Nat.{ℕ, zero, suc, _+_}
 use lib.Dec.{eqb, ltb}
 use lib.ListN.{length, getD}
+use lib.Count.{ones}
 use Rattle.ancestors.specs.Ancestors.{has, put}
 use Rattle.network.specs.Faults.{maxLabel, pairFault}
 use Rattle.network.specs.Network.{Row, none, root, via, Report, empty, told, Net, withRows, withReports, Outcome, outcome}
@@ -35,26 +36,36 @@ unfoldable pub offer : ℕ → ℕ → Report → Offer
 offer y c empty = Nothing
 offer y c (told d l) = cond (has l y || ltb maxLabel (d + c)) Nothing (Sum (d + c))
 
--- the winner among some offers: nobody, or a sender and its sum
-pub data Winner : Type 0 where
-  nobody : Winner
-  sender : ℕ → ℕ → Winner
-
--- the winner once sender k's offer is looked at too: a lesser sum wins, and among equals the earlier sender stays
-unfoldable pub against : Winner → ℕ → Offer → Winner
-against w k Nothing = w
-against nobody k (Sum v) = sender k v
-against (sender s u) k (Sum v) = cond (ltb v u) (sender k v) (sender s u)
-
--- the least offer of the senders below k wins; among equals, the lowest-numbered sender
-unfoldable pub winner : (ℕ → Offer) → ℕ → Winner
-winner f zero = nobody
-winner f (suc k) = against (winner f k) k (f k)
+-- ---- the choice among offers
 
 -- the list of a held report
 unfoldable pub listOf : Report → ℕ
 listOf empty = 0
 listOf (told d l) = l
+
+-- how many ones it has
+abbrev pub onesIn : Report → ℕ
+onesIn h = ones (listOf h)
+
+-- an offer of sum v from a report with i ones goes before one of sum u with j ones: a lesser sum, and among equal offers fewer ones
+unfoldable pub goesBefore : ℕ → ℕ → ℕ → ℕ → Bool
+goesBefore v i u j = ltb v u || (eqb v u && ltb i j)
+
+-- the winner among some offers: nobody, or a sender and its sum
+pub data Winner : Type 0 where
+  nobody : Winner
+  sender : ℕ → ℕ → Winner
+
+-- the winner once sender k's offer is looked at too, c being the ones by sender: where neither goes before the other the earlier sender stays
+unfoldable pub against : (ℕ → ℕ) → Winner → ℕ → Offer → Winner
+against c w k Nothing = w
+against c nobody k (Sum v) = sender k v
+against c (sender s u) k (Sum v) = cond (goesBefore v (c k) u (c s)) (sender k v) (sender s u)
+
+-- the least offer of the senders below k wins; among equals the report with fewest ones in its list, and then the lowest-numbered sender
+unfoldable pub winner : (ℕ → Offer) → (ℕ → ℕ) → ℕ → Winner
+winner f c zero = nobody
+winner f c (suc k) = against c (winner f c k) k (f k)
 
 -- the row becomes that sum, that sender, and the report's list with the receiver's bit; with no offer it has no route
 unfoldable pub rowBy : ℕ → (ℕ → Report) → Winner → Row
@@ -63,7 +74,7 @@ rowBy y held (sender s u) = via u s (put (listOf (held s)) y)
 
 -- y's new row among n nodes, from its held reports and present costs alone, by sender
 unfoldable pub choice : ℕ → (ℕ → ℕ) → (ℕ → Report) → ℕ → Row
-choice n cost held y = rowBy y held (winner (λ s. offer y (cost s) (held s)) n)
+choice n cost held y = rowBy y held (winner (λ s. offer y (cost s) (held s)) (λ s. onesIn (held s)) n)
 
 -- every node below k but the origin gets a new row; its old row plays no part
 unfoldable pub renewTo : ℕ → Net → Net
