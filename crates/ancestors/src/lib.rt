@@ -1,10 +1,10 @@
-// Ancestor lists as 32-bit words: whether a node is listed, a list with a node more, and its hops.
+// Ancestor lists as 32-bit words: whether a node is listed, a list with a node more, how many nodes it has, and its hops.
 //
 // No function has a precondition: a node above 31 is in no list and joins none.
 ghost use mathlib.Core.Path.{_≡_};
 ghost use mathlib.Core.Bool.{cond};
 ghost use lib.Dec.{ltb};
-ghost use Rattle.ancestors.specs.Ancestors.{has, put, hops};
+ghost use Rattle.ancestors.specs.Ancestors.{has, put, hops, count};
 
 // Whether the node is in the list.
 pub fn listed(list: u32, node: u32) -> bool
@@ -26,6 +26,13 @@ pub fn joined(list: u32, node: u32) -> u32
     list | (1u32 << node)
 }
 
+// The number of nodes in the list.
+pub fn count_nodes(list: u32) -> u32
+    ensures { λ r. ⌜ r ≡ count (has list) 32 ⌝ }
+{
+    u32::count_ones(list)
+}
+
 // The number of ones in the list less one; 0 for the empty list.
 pub fn count_hops(list: u32) -> u32
     ensures { λ r. ⌜ r ≡ hops list ⌝ }
@@ -33,5 +40,5 @@ pub fn count_hops(list: u32) -> u32
     if list == 0 {
         return 0;
     }
-    u32::count_ones(list) - 1
+    count_nodes(list) - 1
 }

@@ -1,7 +1,7 @@
 -- The winner as a loop keeps it: the least sum so far, above the largest label where there is none, and its sender.
 -- Assumes nothing.
 use mathlib.Core.Path.{_≡_, refl, ap, subst}
-use mathlib.Core.Bool.{Bool, true, false, cond, _||_, or-true}
+use mathlib.Core.Bool.{Bool, true, false, cond, _&&_, _||_, or-true, or-false}
 use mathlib.Core.Logic.{_⊎_, inl, inr, _≢_}
 use mathlib.Core.List.{List}
 use Prim.Native.Nat.{ℕ, _+_, _<_, _≤_}
@@ -9,12 +9,13 @@ use native.Mathlib.Omega.{arith}
 use native.Mathlib.Numerals.{add-one}
 use lib.Dec.{eqb, ltb, leb}
 use lib.ListN.{length, getD}
+use lib.Count.{ones}
 use borrow.Author.Tests.{lt-ltb, le-ltb, le-leb, lt-leb, ltb-false, eq-eqb, ne-eqb}
 use Rattle.ancestors.specs.Ancestors.{has, put}
-use Rattle.ancestors.proofs.Cases.{le-or-lt, eq-or-ne, bool-cases, clash}
+use Rattle.ancestors.proofs.Cases.{le-or-lt, eq-or-ne, bool-cases, or-neither, clash}
 use Rattle.network.specs.Faults.{maxLabel}
 use Rattle.network.specs.Network.{none, via, Report, empty, told}
-use Rattle.network.specs.Round.{offer, Winner, nobody, sender, against, winner, listOf, rowBy, choice}
+use Rattle.network.specs.Round.{offer, listOf, onesIn, goesBefore, Winner, nobody, sender, against, winner, rowBy, choice}
 use Rattle.network.specs.Words.{reportOf, reports, costsOf}
 use Rattle.network.specs.declared.Offer.{Offer}
 use Rattle.network.specs.declared.Offer.the-variants.{Nothing, Sum}
@@ -22,28 +23,42 @@ use Rattle.network.specs.declared.Offer.the-variants.{Nothing, Sum}
 unfoldable pub winnerOf : ℕ → ℕ → Winner
 winnerOf b p = cond (leb b maxLabel) (sender p b) nobody
 
-pub least-none : (f : ℕ → Offer) → winner f 0 ≡ winnerOf (maxLabel + 1) 0
-unfolding winner winnerOf
-least-none f = refl
+module _ (f : ℕ → Offer) (c : ℕ → ℕ) where
+  pub least-none : winner f c 0 ≡ winnerOf (maxLabel + 1) 0
+  unfolding winner winnerOf
+  least-none = refl
 
-module _ (f : ℕ → Offer) (s b p : ℕ) (e : winner f s ≡ winnerOf b p) where
-  pub least-skip : f s ≡ Nothing → winner f (s + 1) ≡ winnerOf b p
-  unfolding winner against
-  least-skip o = rw (add-one, o) e
+  module _ (s b p : ℕ) (e : winner f c s ≡ winnerOf b p) where
+    pub least-skip : f s ≡ Nothing → winner f c (s + 1) ≡ winnerOf b p
+    unfolding winner against
+    least-skip o = rw (add-one, o) e
 
-  pub least-take : (v : ℕ) → f s ≡ Sum v → v ≤ maxLabel → v < b → winner f (s + 1) ≡ winnerOf v s
-  unfolding winner against winnerOf
-  least-take v o h l = rw (add-one, o, e, le-leb v maxLabel h) (go (le-or-lt b maxLabel))
-    where
-      go : (b ≤ maxLabel) ⊎ (maxLabel < b) → against (cond (leb b maxLabel) (sender p b) nobody) s (Sum v) ≡ sender s v
-      go (inl k) = rw (le-leb b maxLabel k, lt-ltb v b l)
-      go (inr k) = rw (lt-leb b maxLabel k)
+    -- with i ones, the sum v goes before the best so far, whose report has j; where there is none yet, any sum does
+    pub least-take : (v i j : ℕ) → f s ≡ Sum v → v ≤ maxLabel → goesBefore v i b j ≡ true → i ≡ c s → (b ≤ maxLabel → j ≡ c p) →
+        winner f c (s + 1) ≡ winnerOf v s
+    unfolding winner against winnerOf
+    least-take v i j o h t here same = rw (add-one, o, e, le-leb v maxLabel h) (go (le-or-lt b maxLabel))
+      where
+        go : (b ≤ maxLabel) ⊎ (maxLabel < b) → against c (cond (leb b maxLabel) (sender p b) nobody) s (Sum v) ≡ sender s v
+        go (inl k) = rw (le-leb b maxLabel k, ← here, ← same k, t)
+        go (inr k) = rw (lt-leb b maxLabel k)
 
-  pub least-leave : (v : ℕ) → f s ≡ Sum v → v ≤ maxLabel → b ≤ v → winner f (s + 1) ≡ winnerOf b p
-  unfolding winner against winnerOf
-  least-leave v o h l =
-      let k : b ≤ maxLabel = omega arith in
-      rw (add-one, o, e, le-leb b maxLabel k, le-ltb v b l)
+    pub least-leave : (v i j : ℕ) → f s ≡ Sum v → v ≤ maxLabel → goesBefore v i b j ≡ false → i ≡ c s → (b ≤ maxLabel → j ≡ c p) →
+        winner f c (s + 1) ≡ winnerOf b p
+    unfolding winner against winnerOf goesBefore
+    least-leave v i j o h t here same =
+        let k : b ≤ maxLabel = omega (arith, ltb-false v b (or-neither (ltb v b) (eqb v b && ltb i j) t .0)) in
+        rw (add-one, o, e, le-leb b maxLabel k, ← here, ← same k, t)
+
+-- different sums decide, and else the ones
+module _ (v i u j : ℕ) where
+  pub before-sums : v ≢ u → ltb v u ≡ goesBefore v i u j
+  unfolding goesBefore
+  before-sums n = rw (ne-eqb v u n, or-false (ltb v u))
+
+  pub before-ones : v ≡ u → ltb i j ≡ goesBefore v i u j
+  unfolding goesBefore
+  before-ones e = rw (le-ltb v u (omega arith), eq-eqb v u e)
 
 -- an offer is at most the largest label
 pub sum-small : (y c : ℕ) (h : Report) (v : ℕ) → offer y c h ≡ Sum v → v ≤ maxLabel
@@ -66,14 +81,22 @@ list-of-words d l = go (eq-or-ne l 0)
     go (inl e) = rw e
     go (inr n) = rw (ne-eqb l 0 n)
 
--- the offers that the words make to y, by sender
+-- the offers that the words make to y, and the ones of their reports, by sender
 abbrev pub offers : List ℕ → List ℕ → List ℕ → ℕ → ℕ → Offer
 offers costs labels lists y s = offer y (costsOf costs s) (reports labels lists s)
 
+abbrev pub onesOf : List ℕ → List ℕ → ℕ → ℕ
+onesOf labels lists s = onesIn (reports labels lists s)
+
+-- the ones of a report in two words are those of its list
+pub ones-of-words : (labels lists : List ℕ) (s : ℕ) → onesOf labels lists s ≡ ones (getD lists s 0)
+ones-of-words labels lists s = ap ones (list-of-words (getD labels s 0) (getD lists s 0))
+
 -- once every sender is passed
-module _ (costs labels lists : List ℕ) (y s b p : ℕ) (all : s ≡ length costs) (w : winner (offers costs labels lists y) s ≡ winnerOf b p) where
-  e : winner (offers costs labels lists y) (length costs) ≡ winnerOf b p
-  e = subst (λ k. winner (offers costs labels lists y) k ≡ winnerOf b p) all w
+module _ (costs labels lists : List ℕ) (y s b p : ℕ) (all : s ≡ length costs)
+    (w : winner (offers costs labels lists y) (onesOf labels lists) s ≡ winnerOf b p) where
+  e : winner (offers costs labels lists y) (onesOf labels lists) (length costs) ≡ winnerOf b p
+  e = subst (λ k. winner (offers costs labels lists y) (onesOf labels lists) k ≡ winnerOf b p) all w
 
   pub choice-none : maxLabel < b → choice (length costs) (costsOf costs) (reports labels lists) y ≡ none
   unfolding choice rowBy winnerOf

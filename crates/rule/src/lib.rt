@@ -6,8 +6,9 @@ ghost use mathlib.Core.Path.{_≡_};
 ghost use Prim.Native.Nat.{_+_, _^_, _<_, _≤_};
 ghost use lib.Dec.{leb};
 ghost use lib.ListN.{length};
+ghost use lib.Count.{ones};
 ghost use Rattle.network.specs.Faults.{pairFault, listFault, rowFault, reportFault};
-ghost use Rattle.network.specs.Round.{offer, choice};
+ghost use Rattle.network.specs.Round.{offer, goesBefore, choice};
 ghost use Rattle.network.specs.Change.{gradeCost};
 ghost use Rattle.network.specs.Words.{reportOf, reports, costsOf, chosen, chooseOf, choiceMeans};
 use network::Choice;
@@ -144,7 +145,19 @@ fn offer_of(label: u32, list: u32, cost: u32, receiver: u32) -> Offer
     Offer::Sum(sum as u32)
 }
 
-// The least offer of the senders, and of equals the lowest sender's.
+// Whether an offer goes before the best so far: a lesser sum, and among equal offers fewer ones in the report's list.
+fn goes_before(sum: u32, list: u32, best: u32, kept: u32) -> bool
+    ensures { λ b. ⌜ b ≡ goesBefore sum (ones list) best (ones kept) ⌝ }
+{
+    let nodes = ancestors::count_nodes(list);
+    let fewest = ancestors::count_nodes(kept);
+    if sum != best {
+        return sum < best;
+    }
+    nodes < fewest
+}
+
+// The least offer of the senders, of equals that of fewest ones, and then the lowest sender's.
 fn least_offer(costs: &[u32], labels: &[u32], lists: &[u32], receiver: u32) -> Choice
     requires { ⌜ length (now costs) ≤ 32 ⌝ }
     requires { ⌜ length (now labels) ≡ length (now costs) ⌝ }
@@ -155,13 +168,16 @@ fn least_offer(costs: &[u32], labels: &[u32], lists: &[u32], receiver: u32) -> C
     let n = costs.len();
     let mut best = network::MAX_LABEL + 1;
     let mut from = 0usize;
+    let mut kept = 0u32;
     for s in 0..n {
-        let Offer::Sum(sum) = offer_of(labels[s], lists[s], costs[s], receiver) else {
+        let list = lists[s];
+        let Offer::Sum(sum) = offer_of(labels[s], list, costs[s], receiver) else {
             continue;
         };
-        if sum < best {
+        if goes_before(sum, list, best, kept) {
             best = sum;
             from = s;
+            kept = list;
         }
     }
     if network::MAX_LABEL < best {
@@ -170,7 +186,7 @@ fn least_offer(costs: &[u32], labels: &[u32], lists: &[u32], receiver: u32) -> C
     Choice::Route {
         label: best,
         predecessor: from as u32,
-        list: ancestors::joined(lists[from], receiver),
+        list: ancestors::joined(kept, receiver),
     }
 }
 
