@@ -8,6 +8,7 @@ use Prim.Native.Nat.{ℕ, zero, suc, _+_, _-_, _*_, _/_, _%_, _^_, _<_, _≤_, m
 use native.Mathlib.Omega.{arith}
 use native.Mathlib.Nat.{div-self, div-eq-of-lt, mod-lt}
 use lib.Dec.{eqb}
+use borrow.Author.Tests.{eqb-true}
 use lib.Pow.{split, pow-pos, pow-lt, pow-mono, pow-add, shl-shr, shr-lt, shr-mono, field, mod-mod-pow}
 use lib.Bits.{bitOr, or-shr, or-step, or-block, or-zero-r, or-lt}
 use lib.Count.{ones, ones-step, ones-cat}
@@ -175,6 +176,14 @@ hops-count k l h = hops-ones l ∙ ap (λ (x : ℕ). x - 1) (ones-count k l h)
 pub ones-own : (i : ℕ) → ones (own i) ≡ 1
 unfolding ones
 ones-own i = ones-put 0 i (has-empty i)
+
+-- a listed node is a one
+pub ones-listed : (l i : ℕ) → has l i ≡ true → 0 < ones l
+unfolding has
+ones-listed l i h =
+    let low : l % 2 ^ i < 2 ^ i = mod-lt l (pow-pos i) in
+    let parts : ones l ≡ ones (l / 2 ^ i) + ones (l % 2 ^ i) = ap ones (sym (split l i)) ∙ ones-cat i (l / 2 ^ i) (l % 2 ^ i) low in
+    omega (arith, parts, ones-step (l / 2 ^ i), eqb-true (l / 2 ^ i % 2) 1 h)
 
 -- a list that is not empty has a one
 pub ones-some : (k l : ℕ) → l < 2 ^ k → l ≢ 0 → 1 ≤ ones l

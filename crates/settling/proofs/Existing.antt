@@ -1,4 +1,4 @@
--- Where a walk leads there is a least cost and a settled row: walks of a given cost are decided by recursion on the cost.
+-- Where a walk leads there is a least cost and a settled row: walks are decided by recursion on their arcs.
 -- Assumes nothing.
 use mathlib.Core.Path.{_≡_, refl, sym, subst}
 use mathlib.Core.Logic.{_⊎_, inl, inr, _≢_}
@@ -9,130 +9,144 @@ use Rattle.ancestors.specs.Ancestors.{put, own}
 use Rattle.ancestors.proofs.Cases.{eq-or-ne, any-below, first}
 use Rattle.network.specs.Network.{Row, root, via}
 use Rattle.settling.specs.Settled.{Walk, here, along, Least, Tight, Predecessor, Settled}
-use Rattle.settling.proofs.Routes.{ArcEnds, least-part}
+use Rattle.settling.proofs.Routes.{ArcEnds, least-part, tight-part, Unmoved, Ended, walk-end, walk-arcs}
 use Rattle.settling.proofs.Unique.{least-once}
-use Rattle.settling.proofs.SettledBy.{SettledBy, at-start, next, by-least, by-relay, by-settled}
+use Rattle.settling.proofs.SettledBy.{SettledBy, at-start, next, by-relay, by-settled}
 
 module _ (n origin : ℕ) (cost : ℕ → ℕ → ℕ) (ends : ArcEnds n origin cost) where
-  -- s is the last sender of a walk of cost d to y
-  abbrev Last : ℕ → ℕ → ℕ → Type 0
-  Last y d s = (0 < cost s y) × (cost s y ≤ d) × Walk cost origin s (d - cost s y)
+  -- s is the last sender of a walk of k + 1 arcs and cost d to y
+  abbrev Last : ℕ → ℕ → ℕ → ℕ → Type 0
+  Last y k d s = (0 < cost s y) × (cost s y ≤ d) × Walk cost origin s k (d - cost s y)
 
   -- and with it such a walk
-  last-walk : (y d s : ℕ) → Last y d s → Walk cost origin y d
-  last-walk y d s h = subst (λ (x : ℕ). Walk cost origin y x) (omega arith) (along (h .2) (h .0))
+  last-walk : (y k d s : ℕ) → Last y k d s → Walk cost origin y (suc k) d
+  last-walk y k d s h = subst (Walk cost origin y (suc k)) (omega arith) (along (h .2) (h .0))
 
-  -- a walk is the empty one or has a last sender
-  walk-last : {y d : ℕ} → Walk cost origin y d → ((y ≡ origin) × (d ≡ 0)) ⊎ ((s : ℕ) × Last y d s)
-  walk-last here = inl (refl, refl)
-  walk-last (along {s = s} {d = d} {y = y} w arc) =
-      inr (s, (arc, omega arith, subst (λ (x : ℕ). Walk cost origin s x) (omega arith) w))
+  -- a walk of cost e to s and an arc to y make a walk of cost d with s last
+  to-last : (y s k e d : ℕ) → Walk cost origin s k e → 0 < cost s y → d ≡ e + cost s y → Last y k d s
+  to-last y s k e d w arc q = (arc, omega arith, subst (Walk cost origin s k) (omega arith) w)
 
-  -- whether s is, where walks of lesser cost are decided
-  decide-last : (y d s : ℕ) → ((x : ℕ) → x < d → Dec (Walk cost origin s x)) → Dec (Last y d s)
-  decide-last y d s less = go (decLt 0 (cost s y)) (decLe (cost s y) d)
+  -- a walk of k + 1 arcs has a last sender
+  walk-last : (y k d : ℕ) → Walk cost origin y (suc k) d → (s : ℕ) × Last y k d s
+  walk-last y k d w = go (walk-end cost origin w)
     where
-      go : Dec (0 < cost s y) → Dec (cost s y ≤ d) → Dec (Last y d s)
-      go (no h) k = no (λ r. h (r .0))
-      go (yes h) (no k) = no (λ r. k (r .1))
-      go (yes h) (yes k) = rest (less (d - cost s y) (omega arith))
+      go : Unmoved cost origin y (suc k) d ⊎ Ended cost origin y (suc k) d → (s : ℕ) × Last y k d s
+      go (inl o) = absurd (omega (arith, o .1))
+      go (inr o) =
+          let same : o .arcs ≡ k = omega (arith, o .arcs-are) in
+          let w : Walk cost origin (o .sender) k (o .before) = subst (λ (j : ℕ). Walk cost origin (o .sender) j (o .before)) same (o .walk) in
+          (o .sender, to-last y (o .sender) k (o .before) d w (o .arc) (o .sum-is))
+
+  -- whether s is, where walks of k arcs are decided
+  decide-last : (y k d s : ℕ) → ((x : ℕ) → Dec (Walk cost origin s k x)) → Dec (Last y k d s)
+  decide-last y k d s fewer = go (decLt 0 (cost s y)) (decLe (cost s y) d)
+    where
+      go : Dec (0 < cost s y) → Dec (cost s y ≤ d) → Dec (Last y k d s)
+      go (no h) j = no (λ r. h (r .0))
+      go (yes h) (no j) = no (λ r. j (r .1))
+      go (yes h) (yes j) = rest (fewer (d - cost s y))
         where
-          rest : Dec (Walk cost origin s (d - cost s y)) → Dec (Last y d s)
-          rest (yes w) = yes (h, k, w)
+          rest : Dec (Walk cost origin s k (d - cost s y)) → Dec (Last y k d s)
+          rest (yes w) = yes (h, j, w)
           rest (no w) = no (λ r. w (r .2))
 
-  -- a walk of cost d below the fuel: the empty one, or one with a last sender below n
-  decide-below : (fuel y d : ℕ) → d < fuel → Dec (Walk cost origin y d)
-  decide-below zero y d h = absurd (omega arith)
-  decide-below (suc fuel) y d h = go (any-below (Last y d) (λ s. decide-last y d s (λ x b. decide-below fuel s x (omega arith))) n)
+  -- whether there is a walk of k arcs and cost d: the empty one, or one with a last sender below n
+  decide-walk : (k y d : ℕ) → Dec (Walk cost origin y k d)
+  decide-walk zero y d = go (ℕ-discrete y origin) (ℕ-discrete d 0)
     where
-      empty-walk : ((s : ℕ) × (s < n) × Last y d s → ⊥) → ((y ≡ origin) × (d ≡ 0)) ⊎ ((s : ℕ) × Last y d s) → (y ≡ origin) × (d ≡ 0)
-      empty-walk k (inl r) = r
-      empty-walk k (inr r) = absurd (k (r .0, ends .sender-node (r .0) y (r .1 .0), r .1))
+      empty-walk : Unmoved cost origin y 0 d ⊎ Ended cost origin y 0 d → (y ≡ origin) × (d ≡ 0)
+      empty-walk (inl o) = (o .0, o .2)
+      empty-walk (inr o) = absurd (omega (arith, o .arcs-are))
 
-      no-sender : ((s : ℕ) × (s < n) × Last y d s → ⊥) → Dec (y ≡ origin) → Dec (d ≡ 0) → Dec (Walk cost origin y d)
-      no-sender k (yes p) (yes q) = yes (rw (p, q) here)
-      no-sender k (yes p) (no q) = no (λ w. q (empty-walk k (walk-last w) .1))
-      no-sender k (no p) q = no (λ w. p (empty-walk k (walk-last w) .0))
+      go : Dec (y ≡ origin) → Dec (d ≡ 0) → Dec (Walk cost origin y 0 d)
+      go (yes p) (yes q) = yes (rw (p, q) here)
+      go (yes p) (no q) = no (λ w. q (empty-walk (walk-end cost origin w) .1))
+      go (no p) q = no (λ w. p (empty-walk (walk-end cost origin w) .0))
+  decide-walk (suc k) y d = go (any-below (Last y k d) (λ s. decide-last y k d s (decide-walk k s)) n)
+    where
+      go : Dec ((s : ℕ) × (s < n) × Last y k d s) → Dec (Walk cost origin y (suc k) d)
+      go (yes h) = yes (last-walk y k d (h .0) (h .2))
+      go (no h) = no (λ w. let l = walk-last y k d w in h (l .0, ends .sender-node (l .0) y (l .1 .0), l .1))
 
-      go : Dec ((s : ℕ) × (s < n) × Last y d s) → Dec (Walk cost origin y d)
-      go (yes k) = yes (last-walk y d (k .0) (k .2))
-      go (no k) = no-sender k (ℕ-discrete y origin) (ℕ-discrete d 0)
-
-  -- whether there is a walk of cost exactly d
-  decide-walk : (y d : ℕ) → Dec (Walk cost origin y d)
-  decide-walk y d = decide-below (suc d) y d (omega arith)
+  -- whether there is a walk of cost d: it has at most d arcs
+  decide-cost : (y d : ℕ) → Dec ((k : ℕ) × Walk cost origin y k d)
+  decide-cost y d = go (any-below (λ k. Walk cost origin y k d) (λ k. decide-walk k y d) (suc d))
+    where
+      go : Dec ((k : ℕ) × (k < suc d) × Walk cost origin y k d) → Dec ((k : ℕ) × Walk cost origin y k d)
+      go (yes h) = yes (h .0, h .2)
+      go (no h) = no (λ w. h (w .0, omega (arith, walk-arcs cost origin (w .1)), w .1))
 
   -- where a walk leads there is a least cost
-  pub least-exists : (y e : ℕ) → Walk cost origin y e → (d : ℕ) × Least cost origin y d
-  least-exists y e w =
-      let f = first (Walk cost origin y) (decide-walk y) e w in
-      (f .0, record { walk = f .1; least = f .2 })
+  pub least-exists : (y k e : ℕ) → Walk cost origin y k e → (d : ℕ) × Least cost origin y d
+  least-exists y k e w =
+      let f = first (λ d. (j : ℕ) × Walk cost origin y j d) (decide-cost y) e (k, w) in
+      (f .0, record { arcs = f .1 .0; walk = f .1 .1; least = λ j d x. f .2 d (j, x) })
 
-  -- a sender with d(s) plus its arc's cost equal to d(y) is the last of a walk of cost d(y)
-  tight-last : (y d s : ℕ) → Least cost origin y d → Tight cost origin y s → Last y d s
-  tight-last y d s m t =
-      let e : t .before + cost s y ≡ d = least-once cost origin (t .receiver-least) m in
-      (t .arc, omega arith, subst (λ (x : ℕ). Walk cost origin s x) (omega arith) (t .sender-least .walk))
-
-  -- y's settled row, of label d
-  pub record Found (y d : ℕ) : Type 0 where
-    pub arcs : ℕ
+  -- y's settled row, of label d and over k arcs
+  pub record Found (y k d : ℕ) : Type 0 where
     pub list : ℕ
     pub row : Row
-    pub by : SettledBy cost origin y arcs d list row
+    pub by : SettledBy cost origin y k d list row
 
-  -- from the settled row of the lowest last sender
-  extend : (y s e d : ℕ) → y ≢ origin → 0 < cost s y → e + cost s y ≡ d → Least cost origin y d → ((r : ℕ) → Last y d r → s ≤ r) →
-      Found s e → Found y d
-  extend y s e d ne arc q m low f =
-      subst (Found y) q
-      (record {
-        arcs = suc (f .arcs);
-        list = put (f .list) y;
-        row = via (e + cost s y) s (put (f .list) y);
-        by = next ne (f .by) predecessor;
-      })
+  -- by recursion on the fewest arcs of a least-cost walk, which fall along predecessors
+  found-over : (k y d : ℕ) → Least cost origin y d → Walk cost origin y k d → ((j : ℕ) → Walk cost origin y j d → k ≤ j) → Found y k d
+  found-over zero y d m w few = go (walk-end cost origin w)
     where
-      predecessor : Predecessor cost origin y s
-      predecessor =
-          record {
-            tight = record
-                { arc = arc; before = e; sender-least = by-least cost origin (f .by); receiver-least = subst (Least cost origin y) (sym q) m };
-            lowest = λ r t. low r (tight-last y d r m t);
-          }
-
-  -- by recursion on the least cost, which falls along predecessors
-  found-below : (fuel y d : ℕ) → d < fuel → Least cost origin y d → Found y d
-  found-below zero y d h m = absurd (omega arith)
-  found-below (suc fuel) y d h m = go (eq-or-ne y origin) (walk-last (m .walk)) (λ s e b k. found-below fuel s e b k)
+      go : Unmoved cost origin y 0 d ⊎ Ended cost origin y 0 d → Found y 0 d
+      go (inl o) = rw (o .0, o .2) (record { list = own origin; row = root (own origin); by = at-start })
+      go (inr o) = absurd (omega (arith, o .arcs-are))
+  found-over (suc k) y d m w few =
+      let l = walk-last y k d w in
+      go (first (Last y k d) (λ s. decide-last y k d s (decide-walk k s)) (l .0) (l .1)) (λ s e least walk fewest. found-over k s e least walk fewest)
     where
-      at-origin : y ≡ origin → Found y d
-      at-origin q =
-          let z : d ≡ 0 = omega (arith, m .least 0 (rw q here)) in
-          rw (q, z) (record { arcs = 0; list = own origin; row = root (own origin); by = at-start })
+      relay : y ≢ origin
+      relay q =
+          let zero-cost : d ≡ 0 = omega (arith, m .least 0 0 (rw q here)) in
+          omega (arith, few 0 (rw (q, zero-cost) here))
 
-      relay : y ≢ origin → (s : ℕ) × Last y d s × ((r : ℕ) → Last y d r → s ≤ r) →
-          ((s e : ℕ) → e < fuel → Least cost origin s e → Found s e) → Found y d
-      relay ne f before =
-          let s : ℕ = f .0 in
-          let e : ℕ = d - cost s y in
-          let q : e + cost s y ≡ d = omega arith in
-          extend y s e d ne (f .1 .0) q m (f .2) (before s e (omega arith) (least-part cost origin s e y d (f .1 .2) (f .1 .0) q m))
+      go : (s : ℕ) × Last y k d s × ((r : ℕ) → Last y k d r → s ≤ r) →
+          ((s e : ℕ) → Least cost origin s e → Walk cost origin s k e → ((j : ℕ) → Walk cost origin s j e → k ≤ j) → Found s k e) → Found y (suc k) d
+      go f before = subst (Found y (suc k)) sum (record { list = put (x .list) y; row = via (e + cost s y) s (put (x .list) y); by = next relay (x .by) predecessor })
+        where
+          s : ℕ
+          s = f .0
 
-      go : (y ≡ origin) ⊎ (y ≢ origin) → ((y ≡ origin) × (d ≡ 0)) ⊎ ((s : ℕ) × Last y d s) →
-          ((s e : ℕ) → e < fuel → Least cost origin s e → Found s e) → Found y d
-      go (inl q) k before = at-origin q
-      go (inr ne) (inl r) before = absurd (ne (r .0))
-      go (inr ne) (inr r) before = relay ne (first (Last y d) (λ s. decide-last y d s (λ x b. decide-walk s x)) (r .0) (r .1)) before
+          e : ℕ
+          e = d - cost s y
+
+          sum : e + cost s y ≡ d
+          sum = omega (arith, f .1 .1)
+
+          walk : Walk cost origin s k e
+          walk = f .1 .2
+
+          -- a walk to a sender that gives the least cost is one arc shorter than one to y
+          shorter : (r j a : ℕ) → Walk cost origin r j a → 0 < cost r y → a + cost r y ≡ d → k ≤ j
+          shorter r j a x arc q = omega (arith, few (suc j) (subst (Walk cost origin y (suc j)) q (along x arc)))
+
+          x : Found s k e
+          x = before s e (least-part cost origin s k e y d walk (f .1 .0) sum m) walk (λ j v. shorter s j e v (f .1 .0) sum)
+
+          predecessor : Predecessor cost origin y s
+          predecessor =
+              record {
+                tight = tight-part cost origin s k e y d walk (f .1 .0) sum m;
+                arcs = k;
+                walk = walk;
+                fewest = λ r j t v. shorter r j (t .before) v (t .arc) (least-once cost origin (t .receiver-least) m);
+                lowest = λ r t v. f .2 r (to-last y r k (t .before) d v (t .arc) (sym (least-once cost origin (t .receiver-least) m)));
+              }
 
   -- where a walk leads there is a settled row built from the origin on
-  pub found : (y e : ℕ) → Walk cost origin y e → (d : ℕ) × Found y d
-  found y e w = let m = least-exists y e w in (m .0, found-below (suc (m .0)) y (m .0) (omega arith) (m .1))
+  pub found : (y j e : ℕ) → Walk cost origin y j e → (k d : ℕ) × Found y k d
+  found y j e w =
+      let m = least-exists y j e w in
+      let f = first (λ k. Walk cost origin y k (m .0)) (λ k. decide-walk k y (m .0)) (m .1 .arcs) (m .1 .walk) in
+      (f .0, m .0, found-over (f .0) y (m .0) (m .1) (f .1) (f .2))
 
   -- a relay to which a walk leads has a settled row with a route
-  pub settled-exists : (y e : ℕ) → y ≢ origin → Walk cost origin y e → (d p l : ℕ) × Settled cost origin y (via d p l)
-  settled-exists y e ne w =
-      let f = found y e w in
-      let r = by-relay cost origin ne (f .1 .by) in
-      (f .0, r .0, f .1 .list, subst (Settled cost origin y) (r .1) (by-settled cost origin (f .1 .by)))
+  pub settled-exists : (y k e : ℕ) → y ≢ origin → Walk cost origin y k e → (d p l : ℕ) × Settled cost origin y (via d p l)
+  settled-exists y k e ne w =
+      let f = found y k e w in
+      let r = by-relay cost origin ne (f .2 .by) in
+      (f .1, r .0, f .2 .list, subst (Settled cost origin y) (r .1) (by-settled cost origin (f .2 .by)))

@@ -8,8 +8,11 @@ pub mod Existing
 -- over a run of rounds with lost reports
 pub mod Relays
 pub mod Run
+pub mod Inherited
 pub mod Genuine
+pub mod Sound
 pub mod Standing
+pub mod Bounds
 pub mod Converging
 -- over lists of calls, and over a run's bytes
 pub mod Rounds

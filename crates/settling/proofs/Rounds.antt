@@ -11,10 +11,10 @@ use Rattle.network.specs.Faults.{maxCost, maxLabel}
 use Rattle.network.specs.Network.{root, via, told, Net, Within}
 use Rattle.network.specs.Round.{Marks, report, choice}
 use Rattle.network.proofs.Effects.{Stays, nodes-stay, origin-stay, RoundEffect}
-use Rattle.network.proofs.Limits.{within-size, within-arc, within-row, within-report}
+use Rattle.network.proofs.Limits.{within-size, within-arc, within-report}
 use Rattle.settling.specs.Settled.{Route, Settled, Real}
 use Rattle.settling.specs.Calls.{AllReal, AllSettled}
-use Rattle.network.proofs.Reports.{told-row}
+use Rattle.settling.specs.Bounds.{settledFrom}
 use Rattle.settling.proofs.Routes.{ArcEnds, route-short, route-cost}
 use Rattle.settling.proofs.Run.{Run}
 use Rattle.settling.proofs.Converging.{all-real, all-settled}
@@ -40,14 +40,6 @@ module _ (x : Net) (within : Within x) where
       let short : k < x .nodes = route-short (x .cost) (x .origin) (x .nodes) within-ends r in
       omega (arith, within-size x within .1, route-cost (x .cost) (x .origin) maxCost (within .arc-cost) r)
 
-  -- a relay's row lists the relay
-  within-own : (y d l : ℕ) → y ≢ x .origin → report (x .row y) ≡ told d l → has l y ≡ true
-  within-own y d l ne h = go (told-row (x .row y) d l h)
-    where
-      go : ((x .row y ≡ root l) × (0 ≡ d)) ⊎ ((p : ℕ) × (x .row y ≡ via d p l)) → has l y ≡ true
-      go (inl e) = absurd (ne (within .origin-only y l (e .0)))
-      go (inr e) = within-row x within y d (e .0) l (e .1) .own
-
 module _ (marks : ℕ → Marks) (net : ℕ → Net) (T : ℕ) (rounds : Rounds marks net T) where
   -- rounds leave the frame and the costs
   same-frame : (t : ℕ) → t ≤ T → Stays (net 0) (net t)
@@ -68,13 +60,13 @@ module _ (marks : ℕ → Marks) (net : ℕ → Net) (T : ℕ) (rounds : Rounds 
   origin-row : (t : ℕ) → t ≤ T → net t .row (net 0 .origin) ≡ root (own (net 0 .origin))
   origin-row t b = subst (λ (o : ℕ). net t .row o ≡ root (own o)) (same-origin t b) (rounds .within t b .origin-row)
 
-  own-node : (t y d l : ℕ) → t ≤ T → y ≢ net 0 .origin → report (net t .row y) ≡ told d l → has l y ≡ true
-  own-node t y d l b ne h = within-own (net t) (rounds .within t b) y d l (λ e. ne (e ∙ same-origin t b)) h
-
   on-arc : (t s y d l : ℕ) → t ≤ T → net t .held s y ≡ told d l → 0 < net 0 .cost s y
   on-arc t s y d l b h = subst (λ (c : ℕ → ℕ → ℕ). 0 < c s y) (same-cost t b) (within-report (net t) (rounds .within t b) s y d l h .arc)
 
-  renewed : (t y : ℕ) → 0 < t → t ≤ T → y < net 0 .nodes → y ≢ net 0 .origin →
+  own-node : (t s y d l : ℕ) → t ≤ T → net t .held s y ≡ told d l → has l s ≡ true
+  own-node t s y d l b h = within-report (net t) (rounds .within t b) s y d l h .own
+
+  renewed : (t y : ℕ) → 1 ≤ t → t ≤ T → y < net 0 .nodes → y ≢ net 0 .origin →
       net t .row y ≡ choice (net 0 .nodes) (λ s. net 0 .cost s y) (λ s. net t .held s y) y
   renewed zero y a b c ne = absurd (omega arith)
   renewed (suc t) y a b c ne =
@@ -120,15 +112,16 @@ module _ (marks : ℕ → Marks) (net : ℕ → Net) (T : ℕ) (rounds : Rounds 
           cost = net 0 .cost;
           W = W;
           T = T;
+          positive = positive;
           row = λ t. net t .row;
           held = λ t. net t .held;
           ends = within-ends (net 0) (rounds .within 0 (omega arith));
           fits = within-fits (net 0) (rounds .within 0 (omega arith));
           origin-row = origin-row;
-          own-node = own-node;
           on-arc = on-arc;
+          own-node = own-node;
           heard = heard;
-          renewed = λ t y a b c ne. renewed t y (omega arith) b c ne;
+          renewed = renewed;
         }
 
     -- after (n - 1) W rounds every label is the cost of a real route
@@ -137,8 +130,8 @@ module _ (marks : ℕ → Marks) (net : ℕ → Net) (T : ℕ) (rounds : Rounds 
         subst₂ (λ (c : ℕ → ℕ → ℕ) (o : ℕ). Real c o y (net T .row y)) (sym (same-cost T (omega arith))) (sym (same-origin T (omega arith)))
         (all-real run a y (omega (arith, same-nodes T (omega arith))))
 
-    -- after (2 n - 3) W rounds every row is the settled row
-    pub rounds-settled : (2 * net 0 .nodes - 3) * W ≤ T → AllSettled (net T)
+    -- from `settledFrom` on every row is the settled row
+    pub rounds-settled : settledFrom (net 0 .nodes) W ≤ T → AllSettled (net T)
     rounds-settled a y b =
         subst₂ (λ (c : ℕ → ℕ → ℕ) (o : ℕ). Settled c o y (net T .row y)) (sym (same-cost T (omega arith))) (sym (same-origin T (omega arith)))
         (all-settled run a y (omega (arith, same-nodes T (omega arith))))

@@ -1,4 +1,4 @@
--- A run of rounds with lost reports, seen from outside: from round W on a relay's row is the choice among reports at most W rounds old.
+-- A run of rounds with lost reports, seen from outside: a relay's row is the choice among the reports held, from round W on at most W rounds old.
 -- How marks and calls bring this about stays behind this record.
 -- Assumes nothing.
 use mathlib.Core.Path.{_≡_, sym, _∙_}
@@ -23,6 +23,7 @@ pub record Run : Type 0 where
   -- every arc's report is heard within W rounds, and there are T rounds
   pub W : ℕ
   pub T : ℕ
+  pub positive : 1 ≤ W
   -- rows and held reports after t rounds
   pub row : ℕ → ℕ → Row
   pub held : ℕ → ℕ → ℕ → Report
@@ -32,14 +33,13 @@ pub record Run : Type 0 where
   pub fits : (y k d l : ℕ) → Route cost origin y k d l → d ≤ maxLabel
   -- the origin's row is fixed
   pub origin-row : (t : ℕ) → t ≤ T → row t origin ≡ root (own origin)
-  -- a relay's row lists the relay
-  pub own-node : (t y d l : ℕ) → t ≤ T → y ≢ origin → report (row t y) ≡ told d l → has l y ≡ true
-  -- a held report lies on an arc
+  -- a held report lies on an arc and lists its sender
   pub on-arc : (t s y d l : ℕ) → t ≤ T → held t s y ≡ told d l → 0 < cost s y
+  pub own-node : (t s y d l : ℕ) → t ≤ T → held t s y ≡ told d l → has l s ≡ true
   -- from round W on a held report is of the sender's row as it stood at most W rounds before
   pub heard : (t s y : ℕ) → W ≤ t → t ≤ T → 0 < cost s y → (u : ℕ) × (t ≤ u + W) × (u < t) × (held t s y ≡ report (row u s))
-  -- and a relay's row is the choice from what is held
-  pub renewed : (t y : ℕ) → W ≤ t → t ≤ T → y < n → y ≢ origin → row t y ≡ choice n (λ s. cost s y) (λ s. held t s y) y
+  -- from the first round on a relay's row is the choice from what is held
+  pub renewed : (t y : ℕ) → 1 ≤ t → t ≤ T → y < n → y ≢ origin → row t y ≡ choice n (λ s. cost s y) (λ s. held t s y) y
 
 module _ (run : Run) where
   open Run run using (n, origin, cost, W, T, row, held)
@@ -56,16 +56,16 @@ module _ (run : Run) where
       (h .0, h .1, h .2, sym (h .3) ∙ m .is)
 
   -- where a relay's row comes from: its predecessor's offer
-  pub source : (t y d p l : ℕ) → W ≤ t → t ≤ T → y < n → y ≢ origin → row t y ≡ via d p l →
+  pub source : (t y d p l : ℕ) → 1 ≤ t → t ≤ T → y < n → y ≢ origin → row t y ≡ via d p l →
       Came n (λ s. cost s y) (λ s. held t s y) y d p l
   source t y d p l a b c ne h = came n (λ s. cost s y) (λ s. held t s y) y d p l (sym (run .renewed t y a b c ne) ∙ h)
 
   -- a relay's row is never the origin's
-  pub no-root : (t y l : ℕ) → W ≤ t → t ≤ T → y < n → y ≢ origin → row t y ≡ root l → ⊥
+  pub no-root : (t y l : ℕ) → 1 ≤ t → t ≤ T → y < n → y ≢ origin → row t y ≡ root l → ⊥
   no-root t y l a b c ne h = choice-no-root n (λ s. cost s y) (λ s. held t s y) y l (sym (run .renewed t y a b c ne) ∙ h)
 
   -- so what it reports is told by a row with a predecessor
-  pub told-by : (t y d l : ℕ) → W ≤ t → t ≤ T → y < n → y ≢ origin → report (row t y) ≡ told d l → (p : ℕ) × (row t y ≡ via d p l)
+  pub told-by : (t y d l : ℕ) → 1 ≤ t → t ≤ T → y < n → y ≢ origin → report (row t y) ≡ told d l → (p : ℕ) × (row t y ≡ via d p l)
   told-by t y d l a b c ne h = go (told-row (row t y) d l h)
     where
       go : ((row t y ≡ root l) × (0 ≡ d)) ⊎ ((p : ℕ) × (row t y ≡ via d p l)) → (p : ℕ) × (row t y ≡ via d p l)

@@ -4,7 +4,6 @@ use mathlib.Core.Path.{_≡_, sym, subst}
 use mathlib.Core.List.{List}
 use Prim.Native.Nat.{ℕ, _*_, _-_, _≤_}
 use native.Mathlib.Omega.{arith}
-use native.Mathlib.Nat.{mul-le-mul-right}
 use lib.ListN.{length, getD}
 use Rattle.network.specs.Network.{Net, Within}
 use Rattle.network.proofs.Keeping.{fresh-within}
@@ -13,9 +12,10 @@ use Rattle.records.specs.Opening.{openOf}
 use Rattle.records.proofs.Acceptance.{acceptance}
 use Rattle.records.proofs.Opened.{open-accepted}
 use Rattle.settling.specs.Calls.{Call, after, Stretch, rounds, unmarked, HeardWithin, AllSettled, AllReal, roundsHeard, Settling}
-use Rattle.settling.specs.Bounds.{SettlingSooner}
+use Rattle.settling.specs.Bounds.{settledFrom, SettlingSooner}
 use Rattle.settling.specs.Demand.{Answered, by-fresh, by-open, Demand3}
 use Rattle.settling.proofs.Rounds.{rounds-real, rounds-settled}
+use Rattle.settling.proofs.Bounds.{settled-before}
 use Rattle.settling.proofs.CallLaws.{after-nodes, after-within}
 use Rattle.settling.proofs.Stretches.{afterRounds, stretch-after, stretch-rounds}
 
@@ -29,31 +29,28 @@ module _ (x : Net) (within : Within x) (cs : List Call) (W : ℕ) (positive : 1 
       (rounds-real (λ t. getD (rounds x cs) t unmarked) (λ t. afterRounds t (rounds x cs) x) (length (rounds x cs)) (stretch-rounds still within)
       W positive heard a)
 
-  -- a stretch of (2 n - 3) W rounds ends with every row settled
-  stretch-settled : (2 * x .nodes - 3) * W ≤ length (rounds x cs) → AllSettled (after x cs)
+  -- a stretch of `settledFrom` rounds ends with every row settled
+  stretch-settled : settledFrom (x .nodes) W ≤ length (rounds x cs) → AllSettled (after x cs)
   unfolding afterRounds
   stretch-settled a =
       subst AllSettled (sym (stretch-after still))
       (rounds-settled (λ t. getD (rounds x cs) t unmarked) (λ t. afterRounds t (rounds x cs) x) (length (rounds x cs)) (stretch-rounds still within)
       W positive heard a)
 
--- rows are settled from (2 n - 3) W rounds of the stretch on
+-- rows are settled sooner than demand 3 says
 pub settling-sooner : SettlingSooner
 settling-sooner x within before stretch W s a =
     stretch-settled (after x before) (after-within x within before) stretch W (s .positive) (s .still) (s .heard)
-    (subst (λ (n : ℕ). (2 * n - 3) * W ≤ roundsHeard x before stretch) (sym (after-nodes x before)) a)
+    (subst (λ (n : ℕ). settledFrom n W ≤ roundsHeard x before stretch) (sym (after-nodes x before)) a)
 
 -- every network within limits settles
 pub settling : Settling
 settling x within before stretch W s =
     record {
-      settled = λ a. settling-sooner x within before stretch W s (omega (arith, mul-le-mul-right W (fewer (x .nodes))));
+      settled = λ a. settling-sooner x within before stretch W s (omega (arith, settled-before (x .nodes) W (s .positive)));
       real = λ a. stretch-real (after x before) (after-within x within before) stretch W (s .positive) (s .still) (s .heard)
           (subst (λ (n : ℕ). (n - 1) * W ≤ roundsHeard x before stretch) (sym (after-nodes x before)) a);
     }
-  where
-    fewer : (n : ℕ) → 2 * n - 3 ≤ 2 * (n - 1)
-    fewer n = omega arith
 
 -- a network that an accepted fresh or open call answers is within limits
 answered-within : (x : Net) → Answered x → Within x

@@ -4,31 +4,36 @@ use mathlib.Core.Path.{_≡_}
 use mathlib.Core.Bool.{false}
 use mathlib.Core.Logic.{_≢_}
 use Prim.Native.Nat.{ℕ, suc, _+_, _<_, _≤_}
-use Rattle.ancestors.specs.Ancestors.{has, put, own}
-use Rattle.network.specs.Network.{Row, none, root, via}
+use Rattle.ancestors.specs.Ancestors.{has, put, own, hops}
+use Rattle.network.specs.Network.{Row, none, root, via, told}
+use Rattle.network.specs.Round.{report}
 
 module _ (cost : ℕ → ℕ → ℕ) (origin : ℕ) where
-  -- a walk along arcs from the origin to a node, and the sum of its costs
-  pub data Walk : ℕ → ℕ → Type 0 where
-    here : Walk origin 0
-    along : {s d y : ℕ} → Walk s d → 0 < cost s y → Walk y (d + cost s y)
+  -- a walk along arcs from the origin to a node, its number of arcs, and the sum of its costs
+  pub data Walk : ℕ → ℕ → ℕ → Type 0 where
+    here : Walk origin 0 0
+    along : {s k d y : ℕ} → Walk s k d → 0 < cost s y → Walk y (suc k) (d + cost s y)
 
   -- d is d(y), the least sum over all walks from the origin to y
   pub record Least (y d : ℕ) : Type 0 where
-    pub walk : Walk y d
-    pub least : (e : ℕ) → Walk y e → d ≤ e
+    pub arcs : ℕ
+    pub walk : Walk y arcs d
+    pub least : (k e : ℕ) → Walk y k e → d ≤ e
 
-  -- s is a sender with d(s) plus its arc's cost equal to d(y)
+  -- s is a sender that gives the least cost: d(s) plus its arc's cost is d(y)
   pub record Tight (y s : ℕ) : Type 0 where
     pub arc : 0 < cost s y
     pub before : ℕ
     pub sender-least : Least s before
     pub receiver-least : Least y (before + cost s y)
 
-  -- p is y's settled predecessor: the lowest such sender
+  -- p is y's settled predecessor: of such senders, one with a least-cost walk of fewest arcs, and of those the lowest number
   pub record Predecessor (y p : ℕ) : Type 0 where
     pub tight : Tight y p
-    pub lowest : (s : ℕ) → Tight y s → p ≤ s
+    pub arcs : ℕ
+    pub walk : Walk p arcs (tight .before)
+    pub fewest : (s k : ℕ) (t : Tight y s) → Walk s k (t .before) → arcs ≤ k
+    pub lowest : (s : ℕ) (t : Tight y s) → Walk s arcs (t .before) → p ≤ s
 
   -- l lists the nodes met from y along settled predecessors to the origin, both included
   pub data Ancestors : ℕ → ℕ → Type 0 where
@@ -38,7 +43,7 @@ module _ (cost : ℕ → ℕ → ℕ) (origin : ℕ) where
   -- y's settled row: the origin's fixed row, no route if no walk leads there, or d(y), the settled predecessor and that list
   pub data Settled (y : ℕ) : Row → Type 0 where
     fixed : y ≡ origin → Settled y (root (own origin))
-    unreached : ((d : ℕ) → Walk y d → ⊥) → Settled y none
+    unreached : ((k d : ℕ) → Walk y k d → ⊥) → Settled y none
     reached : {d p l : ℕ} → y ≢ origin → Least y d → Predecessor y p → Ancestors y l → Settled y (via d p l)
 
   -- a real route to a node: a walk that meets no node twice, its number of arcs, its cost and the list of its nodes
@@ -51,3 +56,14 @@ module _ (cost : ℕ → ℕ → ℕ) (origin : ℕ) where
     no-label : Real y none
     origin-label : {k m l : ℕ} → Route y k 0 m → Real y (root l)
     relay-label : {d p l k m : ℕ} → Route y k d m → Real y (via d p l)
+
+  -- h is the fewest arcs of any least-cost walk to y
+  pub record FewestArcs (y h : ℕ) : Type 0 where
+    pub sum : ℕ
+    pub least : Least y sum
+    pub walk : Walk y h sum
+    pub fewest : (k : ℕ) → Walk y k sum → h ≤ k
+
+  -- the hops of a settled row are the fewest arcs of any least-cost walk to its node
+  abbrev pub HopsFewest : Type 0
+  HopsFewest = (y d l : ℕ) (w : Row) → Settled y w → report w ≡ told d l → FewestArcs y (hops l)
