@@ -6,11 +6,12 @@ use mathlib.Core.List.{List, [], _∷_, _++_, append-nil}
 use Prim.Native.Nat.{ℕ, _*_, _-_, _≤_}
 use native.Mathlib.Omega.{arith}
 use lib.ListN.{length, replicate}
+use lib.Count.{ones}
 use Rattle.ancestors.specs.Ancestors.{has, put}
 use Rattle.network.specs.Faults.{sizeFault, nodeFault, pairFault, costFault, gradeFault, originFault, rowLabelFault, reportLabelFault, predecessorFault, listFault, arcFault, rowFault, reportFault}
 use Rattle.network.specs.Network.{via, Net, setAt, setPair, withCost, withRow, withHeld, outcome, freshNet, freshNumber, freshOf, Within}
 use Rattle.network.specs.Placing.{placeRowNumber, placeRowOf, placeReportNumber, placeReportOf}
-use Rattle.network.specs.Round.{report, hear, offer, against, winner, listOf, rowBy, choice, renewTo, renew, marked, some, strayMark, idleMark, roundNumber, roundOf, everyArc, fullRoundOf, round as playRound}
+use Rattle.network.specs.Round.{report, hear, offer, listOf, goesBefore, against, winner, rowBy, choice, renewTo, renew, marked, some, strayMark, idleMark, roundNumber, roundOf, everyArc, fullRoundOf, round as playRound}
 use Rattle.network.specs.Change.{changed, changeNumber, changeOf, gradeCost, gradeNumber, gradeOf}
 use Rattle.network.proofs.Keeping.{fresh-within, change-within, place-row-within, place-report-within}
 use Rattle.records.specs.Image.{image}
@@ -70,7 +71,7 @@ record Facts : Type 0 where
 facts : Facts
 unfolding exampleNet before stretch has put sizeFault nodeFault pairFault costFault gradeFault originFault rowLabelFault reportLabelFault
     predecessorFault listFault arcFault rowFault reportFault setAt setPair withCost withRow withHeld outcome freshNet freshNumber
-    freshOf placeRowNumber placeRowOf placeReportNumber placeReportOf report hear offer against winner listOf rowBy choice renewTo
+    freshOf placeRowNumber placeRowOf placeReportNumber placeReportOf ones report hear offer listOf goesBefore against winner rowBy choice renewTo
     renew marked some strayMark idleMark roundNumber roundOf everyArc fullRoundOf playRound changed changeNumber changeOf gradeCost
     gradeNumber gradeOf called accepted after marksThen rounds still unheard missed
 facts = record { still = refl; heard = refl; count = refl; row-one = refl }

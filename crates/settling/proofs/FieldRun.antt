@@ -7,11 +7,12 @@ use Prim.Native.Nat.{ℕ, zero, suc}
 use native.Mathlib.Omega.{arith}
 use lib.Dec.{ltb}
 use borrow.Author.Tests.{ltb-true}
+use lib.Count.{ones}
 use Rattle.ancestors.specs.Ancestors.{has, put}
 use Rattle.ancestors.proofs.Cases.{and-both}
 use Rattle.network.specs.Faults.{sizeFault, nodeFault, pairFault, costFault, gradeFault, firstOf}
 use Rattle.network.specs.Network.{Net, setAt, setPair, withCost, withRow, withHeld, outcome, freshNet, freshNumber, freshOf}
-use Rattle.network.specs.Round.{report, hear, offer, against, winner, listOf, rowBy, choice, renewTo, renew, some, everyArc, fullRoundOf, round as playRound}
+use Rattle.network.specs.Round.{report, hear, offer, listOf, goesBefore, against, winner, rowBy, choice, renewTo, renew, some, everyArc, fullRoundOf, round as playRound}
 use Rattle.network.specs.Change.{changed, changeNumber, changeOf, gradeCost, gradeNumber, gradeOf}
 use Rattle.records.specs.Numbers.{Bytes, num8, num16, num32}
 use Rattle.records.specs.Records.{bodyLength, bodyOf, arcChange, eventOf, allowed, bodied, recordOf}
@@ -59,7 +60,7 @@ record Facts : Type 0 where
 
 facts : Facts
 unfolding has put sizeFault nodeFault pairFault costFault gradeFault setAt setPair withCost withRow withHeld outcome freshNet freshNumber freshOf
-    report hear offer against winner listOf rowBy choice renewTo renew some everyArc fullRoundOf playRound changed changeNumber changeOf gradeCost
+    ones report hear offer listOf goesBefore against winner rowBy choice renewTo renew some everyArc fullRoundOf playRound changed changeNumber changeOf gradeCost
     gradeNumber gradeOf num8 num16 num32 bodyLength bodyOf arcChange eventOf allowed bodied recordOf arcRank orderNumber firstOf arcNumber judged
     placed readRecords started headed openOf called accepted after marksThen rounds eventCall eventsIn runEvents callsOf still unheard missed small
 facts = record { bytes = refl; opened = refl; calls = refl; still = refl; heard = refl; nodes = refl; count = refl }

@@ -23,6 +23,7 @@ pub mod RunCalls
 -- concrete networks, computed
 pub mod Computed
 pub mod Tight
+pub mod Exact
 pub mod Example
 pub mod FalseRelays
 pub mod Field

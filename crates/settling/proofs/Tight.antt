@@ -1,4 +1,4 @@
--- (n - 1) W accepted rounds cannot be lowered by one: a field of three nodes whose rows are not all real after one round less.
+-- (n - 1) W accepted rounds cannot be lowered by one: a field of three nodes whose labels are not all real after one round less.
 -- Assumes nothing.
 use mathlib.Core.Path.{_≡_, refl, subst}
 use mathlib.Core.Bool.{Bool, true, false, cond, _&&_}
@@ -8,17 +8,18 @@ use native.Mathlib.Nat.{mul-le-mul-right}
 use native.Mathlib.Omega.{arith}
 use lib.Dec.{eqb}
 use lib.ListN.{replicate}
+use lib.Count.{ones}
 use Rattle.ancestors.specs.Ancestors.{has, put}
 use Rattle.network.specs.Faults.{sizeFault, pairFault, costFault, reportLabelFault, listFault, arcFault, reportFault}
 use Rattle.network.specs.Network.{via, Net, setPair, withCost, withHeld, outcome, freshNet, freshNumber, freshOf, Within}
 use Rattle.network.specs.Placing.{placeReportNumber, placeReportOf}
-use Rattle.network.specs.Round.{report, hear, offer, against, winner, listOf, rowBy, choice, renewTo, renew, marked, some, strayMark, idleMark, roundNumber, roundOf, round as playRound}
+use Rattle.network.specs.Round.{report, hear, offer, listOf, goesBefore, against, winner, rowBy, choice, renewTo, renew, marked, some, strayMark, idleMark, roundNumber, roundOf, round as playRound}
 use Rattle.network.specs.Change.{changed, changeNumber, changeOf}
 use Rattle.network.proofs.Limits.{within-size, within-arc}
 use Rattle.network.proofs.Keeping.{fresh-within, change-within, place-report-within}
 use Rattle.settling.specs.Settled.{Real, relay-label}
 use Rattle.settling.specs.Calls.{Call, round, called, accepted, after, marksThen, rounds, AllReal, atEnd, roundsHeard}
-use Rattle.settling.specs.Bounds.{TooFew, NoSooner}
+use Rattle.settling.specs.Bounds.{realFrom, TooFew, NoSooner}
 use Rattle.settling.proofs.Routes.{ArcEnds, route-cost, route-short}
 use Rattle.settling.proofs.CallLaws.{after-within}
 use Rattle.settling.proofs.Computed.{still, unheard, missed, supposed-by}
@@ -50,7 +51,7 @@ either-le false i j c h k = k
 record Facts : Type 0 where
   still : still chainNet stretch ≡ true
   heard : missed (chainNet .nodes) 2 (chainNet .cost) (rounds chainNet stretch) ≡ false
-  count : roundsHeard chainNet [] stretch ≡ (chainNet .nodes - 1) * 2 - 1
+  count : roundsHeard chainNet [] stretch ≡ realFrom (chainNet .nodes) 2 - 1
   nodes : atEnd chainNet [] stretch .nodes ≡ 3
   low : (s r : ℕ) → atEnd chainNet [] stretch .cost s r ≤ 1
   -- the wrong label went on to node 2
@@ -58,7 +59,7 @@ record Facts : Type 0 where
 
 facts : Facts
 unfolding chainNet stretch has put sizeFault pairFault costFault reportLabelFault listFault arcFault reportFault setPair withCost withHeld
-    outcome freshNet freshNumber freshOf placeReportNumber placeReportOf report hear offer against winner listOf rowBy choice renewTo
+    outcome freshNet freshNumber freshOf placeReportNumber placeReportOf ones report hear offer listOf goesBefore against winner rowBy choice renewTo
     renew marked some strayMark idleMark roundNumber roundOf playRound changed changeNumber changeOf called accepted after marksThen
     rounds still unheard missed
 facts =
@@ -91,15 +92,15 @@ unreal-end all =
           receiver-node = λ s y arc. omega (arith, facts .nodes, within-arc z w s y arc .1);
         }
 
-pub tight : TooFew chainNet [] stretch 2
+pub tight : TooFew realFrom AllReal chainNet [] stretch 2
 unfolding after
 tight =
     record {
       within = field-within;
       supposed = supposed-by chainNet [] stretch 2 (omega arith) field-within (facts .still) (facts .heard);
       count = facts .count;
-      unreal = unreal-end;
+      fails = unreal-end;
     }
 
-pub no-sooner : NoSooner
-no-sooner sooner = tight .unreal (sooner chainNet (tight .within) [] stretch 2 (tight .supposed) (omega (arith, tight .count)))
+pub no-sooner : NoSooner realFrom AllReal
+no-sooner sooner = tight .fails (sooner chainNet (tight .within) [] stretch 2 (tight .supposed) (omega (arith, tight .count)))

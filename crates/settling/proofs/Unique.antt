@@ -1,10 +1,10 @@
--- A node has at most one settled row, and a settled row with a route has a walk of its label's cost.
+-- A node has at most one settled row, with a route exactly where a walk leads.
 -- Assumes nothing.
 use mathlib.Core.Path.{_≡_, refl, sym, ap, subst}
 use Prim.Native.Nat.{ℕ}
 use native.Mathlib.Omega.{arith}
 use Rattle.ancestors.specs.Ancestors.{put}
-use Rattle.network.specs.Network.{Row, via}
+use Rattle.network.specs.Network.{Row, none, via}
 use Rattle.settling.specs.Settled.{Walk, here, Least, Predecessor, Ancestors, at-origin, behind, Settled, fixed, unreached, reached}
 
 module _ (cost : ℕ → ℕ → ℕ) (origin : ℕ) where
@@ -45,3 +45,7 @@ module _ (cost : ℕ → ℕ → ℕ) (origin : ℕ) where
   -- a settled row with a route comes with a walk of its label's cost
   pub settled-walk : {y d p l : ℕ} → Settled cost origin y (via d p l) → (k : ℕ) × Walk cost origin y k d
   settled-walk (reached ne m p a) = (m .arcs, m .walk)
+
+  -- and one without a route is settled only where no walk leads
+  pub settled-none : {y : ℕ} → Settled cost origin y none → (k d : ℕ) → Walk cost origin y k d → ⊥
+  settled-none (unreached no-walk) k d w = no-walk k d w

@@ -1,4 +1,5 @@
--- Document 01, "Bench-fit and false" and the owner's trials 1 to 3: rounds other than the one defined, and for each a row that differs.
+-- Document 01, "Bench-fit and false", request One's rule of before and the owner's trials 1 to 3: rounds other than the one defined, and for each a
+-- row that differs.
 -- Assumes nothing.
 use mathlib.Core.Path.{_≡_}
 use mathlib.Core.Logic.{_≢_}
@@ -10,7 +11,7 @@ use lib.ListN.{replicate}
 use Rattle.ancestors.specs.Ancestors.{has, put, own}
 use Rattle.network.specs.Faults.{maxLabel}
 use Rattle.network.specs.Network.{Row, none, root, via, Report, empty, told, Net, withRows, withReports, withRow, outcome, freshOf}
-use Rattle.network.specs.Round.{Marks, hear, winner, rowBy, renew, marked, some, roundNumber, everyArc, round as playRound}
+use Rattle.network.specs.Round.{Marks, hear, offer, onesIn, winner, rowBy, renew, marked, some, roundNumber, everyArc, round as playRound}
 use Rattle.network.specs.declared.Offer.{Offer}
 use Rattle.network.specs.declared.Offer.the-variants.{Nothing, Sum}
 use Rattle.network.specs.Change.{changeOf, gradeOf}
@@ -58,12 +59,25 @@ offer16 y c empty = Nothing
 offer16 y c (told d l) = cond (has l y || ltb maxLabel ((d + c) % 65536)) Nothing (Sum ((d + c) % 65536))
 
 abbrev pub choice16 : ℕ → (ℕ → ℕ) → (ℕ → Report) → ℕ → Row
-choice16 n cost held y = rowBy y held (winner (λ s. offer16 y (cost s) (held s)) n)
+choice16 n cost held y = rowBy y held (winner (λ s. offer16 y (cost s) (held s)) (λ s. onesIn (held s)) n)
+
+-- every node but the origin gets its row by another choice
+abbrev pub chosenBy : (ℕ → (ℕ → ℕ) → (ℕ → Report) → ℕ → Row) → Marks → Net → Net
+chosenBy choose m x =
+    let z = hear m x in
+    withRows z (λ y. cond (eqb y (x .origin)) (x .row y) (choose (x .nodes) (λ s. z .cost s y) (λ s. z .held s y) y))
 
 abbrev pub sixteenBits : Marks → Net → Net
-sixteenBits m x =
-    let z = hear m x in
-    withRows z (λ y. cond (eqb y (x .origin)) (x .row y) (choice16 (x .nodes) (λ s. z .cost s y) (λ s. z .held s y) y))
+sixteenBits = chosenBy choice16
+
+-- ---- request One
+
+-- among equal offers the lowest sender at once, whatever the ones
+abbrev pub choiceLowest : ℕ → (ℕ → ℕ) → (ℕ → Report) → ℕ → Row
+choiceLowest n cost held y = rowBy y held (winner (λ s. offer y (cost s) (held s)) (λ s. 0) n)
+
+abbrev pub lowestSender : Marks → Net → Net
+lowestSender = chosenBy choiceLowest
 
 -- ---- the owner's trials 1 to 3
 
@@ -140,6 +154,10 @@ ring =
     change 1 3 1 ∷ change 3 1 1 ∷ fullRound ∷ fullRound ∷ fullRound ∷ fullRound ∷ change 0 1 0 ∷ change 0 3 0 ∷ fullRound ∷ fullRound ∷
     fullRound ∷ fullRound ∷ twice
 
+-- the origin reaches 2 alone, and 3 is reached from 2, or over 1 at the same cost; three full rounds
+abbrev pub detour : List Call
+detour = change 0 1 0 ∷ change 0 3 0 ∷ change 0 2 2 ∷ change 1 3 1 ∷ change 2 3 2 ∷ fullRound ∷ twice
+
 -- ---- rows that differ
 
 -- after these calls on the field y's row is a by the round f and b by document 01, and the two differ
@@ -147,13 +165,15 @@ abbrev pub Differs : (Marks → Net → Net) → List Call → ℕ → Row → R
 Differs f calls y a b =
     (afterBy f fieldNet calls .row y ≡ a) × (after fieldNet calls .row y ≡ b) × (afterBy f fieldNet calls .row y ≢ after fieldNet calls .row y)
 
--- each false relay gets a row wrong; the first five are document 01's, the others trials 1 to 3
+-- each false relay gets a row wrong; the first five are document 01's, the sixth is request One's, the others are trials 1 to 3
 pub record FalseRelaysDiffer : Type 0 where
   pub predecessor-only-differs : Differs predecessorOnly ring 1 (via 7 2 14) none
   pub renewed-heard-differs : Differs renewedHeard once 2 (via 2 1 7) none
   pub old-kept-differs : Differs oldKept linkCut 3 (via 3 2 15) (via 4 0 9)
   pub unheard-empty-differs : Differs unheardEmpty lost 1 none (via 1 0 3)
   pub sixteen-bits-differs : Differs sixteenBits dear 2 (via 0 1 7) (via 5 3 13)
+  -- the detour over 1, where two arcs do
+  pub lowest-sender-differs : Differs lowestSender detour 3 (via 4 1 15) (via 4 2 13)
   pub central-differs : Differs central once 2 (via 2 1 7) none
   pub idle-differs : Differs idle once 1 none (via 1 0 3)
   pub routeless-differs : Differs routeless once 1 none (via 1 0 3)

@@ -63,12 +63,16 @@ lists x = listIn (x .row 0) ∷ listIn (x .row 1) ∷ listIn (x .row 2) ∷ list
 abbrev pub equalReports : ℕ → Report
 equalReports s = getD (empty ∷ told 5 2 ∷ told 5 4 ∷ []) s empty
 
--- a case: what the definitions give, and what document 01 says
+-- and with 1's list the longer
+abbrev pub longerReports : ℕ → Report
+longerReports s = getD (empty ∷ told 5 3 ∷ told 5 4 ∷ []) s empty
+
+-- a case: what the definitions give, and what the papers say
 pub record Case : Type 0 where
   pub given : List Value
   pub said : List Value
 
--- document 01's list, in its order
+-- document 01's list, in its order, with request One's case beside that of equal offers
 abbrev pub cases : List Case
 cases =
     -- after four full rounds
@@ -83,6 +87,8 @@ cases =
     record { given = offered (offer 1 1 (told 2031585 1)) ∷ []; said = offered Nothing ∷ [] } ∷
     -- equal offers from 1 and 2
     record { given = row (choice 4 (λ s. 7) equalReports 3) ∷ []; said = row (via 12 1 10) ∷ [] } ∷
+    -- and from 1 with more ones in its list
+    record { given = row (choice 4 (λ s. 7) longerReports 3) ∷ []; said = row (via 12 2 12) ∷ [] } ∷
     -- a report listing its receiver
     record { given = offered (offer 1 1 (told 5 7)) ∷ []; said = offered Nothing ∷ [] } ∷
     -- grades 15 and 16
@@ -99,6 +105,6 @@ cases =
     } ∷
     []
 
--- the definitions give what document 01 says, in every case of a list
+-- the definitions give what the papers say, in every case of a list
 abbrev pub Hold : List Case → Type 0
 Hold cs = map (λ (c : Case). c .given) cs ≡ map (λ (c : Case). c .said) cs
