@@ -1,39 +1,47 @@
 -- Laws of the bound from which rows are settled. Only this file and computed examples open `settledFrom`.
 -- Assumes nothing.
 use mathlib.Core.Path.{_≡_}
-use mathlib.Core.Logic.{_⊎_, inl, inr, _≢_}
-use mathlib.Core.Bool.{cond}
+use mathlib.Core.Logic.{_≢_}
 use Prim.Native.Nat.{ℕ, suc, _+_, _*_, _-_, _<_, _≤_}
 use native.Mathlib.Omega.{arith}
 use native.Mathlib.Nat.{mul-le-mul-right}
 use lib.Dec.{eqb, ltb}
-use borrow.Author.Tests.{lt-ltb, le-ltb, ne-eqb}
-use Rattle.ancestors.proofs.Cases.{le-or-lt, eq-or-ne}
+use borrow.Author.Tests.{ltb-true, ltb-false, eqb-true, eqb-false}
+use Rattle.ancestors.proofs.Cases.{cond-by}
 use Rattle.settling.specs.Bounds.{settledFrom}
 
 module _ (n W : ℕ) (positive : 1 ≤ W) where
-  -- with two nodes or more it is at least W and at least (2n - 4) W + 1
-  pub settled-from : 2 ≤ n → (W ≤ settledFrom n W) × ((2 * n - 4) * W + 1 ≤ settledFrom n W)
-  unfolding settledFrom
-  settled-from two = rw (le-ltb n 2 two) (go (eq-or-ne n 2))
-    where
-      go : (n ≡ 2) ⊎ (n ≢ 2) → (W ≤ cond (eqb n 2) W ((2 * n - 4) * W + 1)) × ((2 * n - 4) * W + 1 ≤ cond (eqb n 2) W ((2 * n - 4) * W + 1))
-      go (inl e) = rw e (omega arith, omega arith)
-      go (inr e) =
-          let three : 1 ≤ 2 * n - 4 = omega (arith, e) in
-          rw (ne-eqb n 2 e) (omega (arith, mul-le-mul-right W three), omega arith)
+  -- at least W, and at least (2n - 4) W + 1; at most 2 (n - 1) W
+  abbrev Enough : ℕ → Type 0
+  Enough b = (W ≤ b) × ((2 * n - 4) * W + 1 ≤ b)
 
-  -- it is at most 2 (n - 1) W
-  pub settled-before : settledFrom n W ≤ 2 * (n - 1) * W
-  unfolding settledFrom
-  settled-before = go (le-or-lt 2 n)
-    where
-      rest : 2 ≤ n → (n ≡ 2) ⊎ (n ≢ 2) → cond (eqb n 2) W ((2 * n - 4) * W + 1) ≤ 2 * (n - 1) * W
-      rest two (inl e) = rw e (omega arith)
-      rest two (inr e) =
-          let less : suc (2 * n - 4) ≤ 2 * (n - 1) = omega arith in
-          rw (ne-eqb n 2 e) (omega (arith, mul-le-mul-right W less))
+  abbrev Most : ℕ → Type 0
+  Most b = b ≤ 2 * (n - 1) * W
 
-      go : (2 ≤ n) ⊎ (n < 2) → cond (ltb n 2) 0 (cond (eqb n 2) W ((2 * n - 4) * W + 1)) ≤ 2 * (n - 1) * W
-      go (inl two) = rw (le-ltb n 2 two) (rest two (eq-or-ne n 2))
-      go (inr one) = rw (lt-ltb n 2 one) (omega arith)
+  -- the bound of two nodes or more is enough
+  pub settled-from : 2 ≤ n → Enough (settledFrom n W)
+  unfolding settledFrom
+  settled-from two =
+      cond-by Enough (ltb n 2) _ _ (λ t. absurd (omega (arith, ltb-true n 2 t)))
+      (λ _. cond-by Enough (eqb n 2) _ _ (λ e. (omega arith, rw (pair (eqb-true n 2 e)) (omega arith)))
+      (λ e. (omega (arith, mul-le-mul-right W (more (eqb-false n 2 e))), omega arith)))
+    where
+      pair : n ≡ 2 → 2 * n - 4 ≡ 0
+      pair e = omega arith
+
+      more : n ≢ 2 → 1 ≤ 2 * n - 4
+      more ne = omega (arith, ne)
+
+  -- and demand 3's is no less
+  pub settled-before : Most (settledFrom n W)
+  unfolding settledFrom
+  settled-before =
+      cond-by Most (ltb n 2) _ _ (λ _. omega arith)
+      (λ t. cond-by Most (eqb n 2) _ _ (λ _. omega (arith, mul-le-mul-right W (pair (ltb-false n 2 t))))
+      (λ _. omega (arith, mul-le-mul-right W (more (ltb-false n 2 t)))))
+    where
+      pair : 2 ≤ n → 1 ≤ 2 * (n - 1)
+      pair two = omega arith
+
+      more : 2 ≤ n → suc (2 * n - 4) ≤ 2 * (n - 1)
+      more two = omega arith
