@@ -106,7 +106,7 @@ static int same(void)
 
 /* ---- rounds */
 
-/* marks that lose `lost` in ten of the arcs, taken in turn */
+/* sets of marks, taken in turn */
 static uint32_t marks[SETS][NODES];
 static unsigned proved_set, plain_set;
 
@@ -115,8 +115,32 @@ static void plain_full(void) { plain_full_round(&plain); }
 static void proved_marked(void) { bench_round(words, marks[proved_set++ % SETS], NODES); }
 static void plain_marked(void) { plain_round(&plain, marks[plain_set++ % SETS], NODES); }
 
-/* every arc of n nodes, or one in `sparse`; origin 0 */
-static void build(uint32_t n, uint32_t sparse, uint32_t lost)
+/*
+ * a field and its rounds: every arc, or one in `sparse`, but of the origin's only those to the last one in `near` of the nodes; costs 1 to `most`;
+ * marks that lose `lost` in ten of the arcs
+ */
+struct kind {
+    const char *name;
+    uint32_t sparse, near, most, lost;
+    work proved, plain;
+};
+
+/* with the origin near a quarter and low costs, most relays get many equal offers */
+static const struct kind kinds[] = {
+    {"full round, dense", 1, 1, 600, 0, proved_full, plain_full},
+    {"marked, none lost, dense", 1, 1, 600, 0, proved_marked, plain_marked},
+    {"marked, 5 in 10 lost, dense", 1, 1, 600, 5, proved_marked, plain_marked},
+    {"marked, 9 in 10 lost, dense", 1, 1, 600, 9, proved_marked, plain_marked},
+    {"full round, 1 arc in 8", 8, 1, 600, 0, proved_full, plain_full},
+    {"marked, 5 in 10, 1 arc in 8", 8, 1, 600, 5, proved_marked, plain_marked},
+    {"full round, costs 1", 1, 4, 1, 0, proved_full, plain_full},
+    {"marked, 5 in 10, costs 1", 1, 4, 1, 5, proved_marked, plain_marked},
+    {"full round, costs 1 and 2", 1, 4, 2, 0, proved_full, plain_full},
+    {"marked, 5 in 10, 1 and 2", 1, 4, 2, 5, proved_marked, plain_marked},
+};
+
+/* a field of n nodes; origin 0 */
+static void build(uint32_t n, const struct kind *kind)
 {
     memset(words, 0, sizeof words);
     memset(&plain, 0, sizeof plain);
@@ -126,49 +150,34 @@ static void build(uint32_t n, uint32_t sparse, uint32_t lost)
     plain.row_list[0] = 1;
     for (uint32_t r = 0; r < n; r++)
         for (uint32_t s = 0; s < n; s++) {
-            if (r == s || next() % sparse)
+            if (r == s || next() % kind->sparse || (s == 0 && r < n - n / kind->near))
                 continue;
-            uint32_t c = 1 + next() % 600;
+            uint32_t c = 1 + next() % kind->most;
             held(bench_change(words, s, r, c) == plain_change(&plain, s, r, c), "change");
             for (int k = 0; k < SETS; k++)
-                if (next() % 10 >= lost)
+                if (next() % 10 >= kind->lost)
                     marks[k][r] |= 1u << s;
         }
 }
 
-static struct times rounds(uint32_t n, uint32_t sparse, uint32_t lost, work proved, work other)
+static struct times rounds(uint32_t n, const struct kind *kind)
 {
-    build(n, sparse, lost);
+    build(n, kind);
     for (int k = 0; k < 2 * NODES; k++) {
-        proved();
-        other();
-        held(same(), "round");
+        kind->proved();
+        kind->plain();
+        held(same(), kind->name);
     }
-    struct times t = measure(proved, other, TURNS, 1 + 20000 / (int)(n * n));
-    held(same(), "rounds");
+    struct times t = measure(kind->proved, kind->plain, TURNS, 1 + 20000 / (int)(n * n));
+    held(same(), kind->name);
     return t;
 }
-
-struct kind {
-    const char *name;
-    uint32_t sparse, lost;
-    work proved, plain;
-};
-
-static const struct kind kinds[] = {
-    {"full round, dense", 1, 0, proved_full, plain_full},
-    {"marked, none lost, dense", 1, 0, proved_marked, plain_marked},
-    {"marked, 5 in 10 lost, dense", 1, 5, proved_marked, plain_marked},
-    {"marked, 9 in 10 lost, dense", 1, 9, proved_marked, plain_marked},
-    {"full round, 1 arc in 8", 8, 0, proved_full, plain_full},
-    {"marked, 5 in 10, 1 arc in 8", 8, 5, proved_marked, plain_marked},
-};
 
 static void round_lines(void)
 {
     for (unsigned k = 0; k < sizeof kinds / sizeof *kinds; k++)
         for (uint32_t n = 4; n <= NODES; n *= 2)
-            print(kinds[k].name, n, rounds(n, kinds[k].sparse, kinds[k].lost, kinds[k].proved, kinds[k].plain));
+            print(kinds[k].name, n, rounds(n, &kinds[k]));
 }
 
 /* how the cost of a dense round grows */
@@ -180,7 +189,7 @@ static void growth_lines(void)
         const struct kind *k = &kinds[shown[i]];
         double first = 0;
         for (uint32_t n = 4; n <= NODES; n += 4) {
-            double t = rounds(n, k->sparse, k->lost, k->proved, k->plain).proved;
+            double t = rounds(n, k).proved;
             uint32_t arcs = n * (n - 1);
             first = n == 4 ? t : first;
             printf("| %-27s | %5u | %10u | %10.2f | %13.1f |\n", k->name, n, arcs, 1000 * t / arcs, t / first);
@@ -231,7 +240,7 @@ static int same_calls(void)
 /* every arc, row and report of n nodes */
 static void full_network(uint32_t n)
 {
-    build(n, 1, 0);
+    build(n, &kinds[0]);
     for (int k = 0; k < 2; k++) {
         proved_full();
         plain_full();

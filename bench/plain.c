@@ -24,12 +24,37 @@ int plain_grade(struct plain_net *x, uint32_t s, uint32_t r, uint32_t grade)
     return grade > 15 ? 3 : plain_change(x, s, r, grades[grade]);
 }
 
+/* the ones of a list; plain -O2 makes a call of __builtin_popcount, which is slower */
+static uint32_t ones(uint32_t list)
+{
+    list -= list >> 1 & 0x55555555;
+    list = (list & 0x33333333) + (list >> 2 & 0x33333333);
+    return ((list + (list >> 4)) & 0x0f0f0f0f) * 0x01010101 >> 24;
+}
+
+/* of the senders from the first one on that offer the sum, the lowest one with the fewest ones in its list */
+static uint32_t fewest(const struct plain_net *x, uint32_t r, uint32_t first, uint32_t sum)
+{
+    uint32_t from = first, few = ones(x->held_list[r][first]);
+    for (uint32_t s = first + 1; s < x->n; s++) {
+        uint32_t list = x->held_list[r][s];
+        if (list == 0 || (list >> r & 1) || x->held_label[r][s] + x->cost[r][s] != sum)
+            continue;
+        if (ones(list) < few) {
+            few = ones(list);
+            from = s;
+        }
+    }
+    return from;
+}
+
 static void renew(struct plain_net *x)
 {
     for (uint32_t r = 0; r < x->n; r++) {
         if (r == x->origin)
             continue;
         uint32_t best = MAX_LABEL + 1, from = 0;
+        int equal = 0; /* another sender offers the best sum too */
         for (uint32_t s = 0; s < x->n; s++) {
             uint32_t list = x->held_list[r][s];
             if (list == 0 || (list >> r & 1))
@@ -38,8 +63,13 @@ static void renew(struct plain_net *x)
             if (sum < best) {
                 best = sum;
                 from = s;
+                equal = 0;
+            } else if (sum == best) {
+                equal = 1;
             }
         }
+        if (equal && best <= MAX_LABEL)
+            from = fewest(x, r, from, best);
         if (best > MAX_LABEL) {
             x->row_list[r] = 0;
         } else {
