@@ -1,5 +1,5 @@
-// A central shortest-path calculation for the trials, apart from the core: least costs and rows by Dijkstra's algorithm, and a search for a route of a
-// given cost.
+// A central shortest-path calculation for the trials, apart from the core: least costs, fewest arcs and rows by Dijkstra's algorithm, and a search for a
+// route of a given cost.
 
 /// The largest number of nodes.
 pub const MOST_NODES: u32 = 32;
@@ -64,8 +64,8 @@ impl Settled {
     /// Stands for no route: more than any route costs.
     const NONE: u32 = 4_000_000;
 
-    /// Dijkstra's algorithm. The predecessor is the lowest sender over which a route has the least cost, the list has the nodes of the route
-    /// along predecessors.
+    /// Dijkstra's algorithm. The predecessor is, of the givers, the one with the fewest arcs, then the lowest; the list has the nodes of the route
+    /// along predecessors, and the hops are its arcs.
     pub fn calculate(costs: &Costs, origin: u32) -> Settled {
         let mut settled = Settled { least: [Settled::NONE; 32], rows: [Row { label: 0, predecessor: NOBODY, list: 0, hops: 0 }; 32] };
         settled.least[origin as usize] = 0;
@@ -75,10 +75,11 @@ impl Settled {
                 break;
             }
             left.retain(|&x| x != y);
-            let predecessor = (0..MOST_NODES).find(|&s| settled.way(costs, s, y) == Some(settled.least(y)));
-            let list = bit(y) | predecessor.map_or(0, |s| settled.row(s).list);
-            let row = Row { label: settled.least(y), predecessor: predecessor.unwrap_or(NOBODY), list, hops: list.count_ones() - 1 };
-            settled.rows[y as usize] = row;
+            let label = settled.least(y);
+            settled.rows[y as usize] = match settled.givers(costs, y).min() {
+                Some((arcs, s)) => Row { label, predecessor: s, list: settled.row(s).list | bit(y), hops: arcs + 1 },
+                None => Row { label, predecessor: NOBODY, list: bit(y), hops: 0 },
+            };
             for r in 0..MOST_NODES {
                 let way = settled.way(costs, y, r).unwrap_or(Settled::NONE);
                 settled.least[r as usize] = settled.least(r).min(way);
@@ -93,6 +94,12 @@ impl Settled {
 
     pub fn row(&self, node: u32) -> Row {
         self.rows[node as usize]
+    }
+
+    /// The senders that give a node its least cost, each after the fewest arcs of a route of least cost to it.
+    pub fn givers<'a>(&'a self, costs: &'a Costs, node: u32) -> impl Iterator<Item = (u32, u32)> + 'a {
+        let gives = move |&s: &u32| self.way(costs, s, node) == Some(self.least(node));
+        (0..MOST_NODES).filter(gives).map(|s| (self.row(s).hops, s))
     }
 
     /// The least cost to the sender and the arc's cost together.

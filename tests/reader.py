@@ -1,6 +1,6 @@
-"""Document 01 in plain Python, for comparison with the proved code: networks, changes, grades, rounds, images, runs and routes.
+"""Document 01 with change request One in plain Python, for comparison with the proved code: networks, changes, grades, rounds, images, runs, routes.
 
-Written from the document alone. Every call answers a number first: 0, or the number that the document refuses it under.
+Written from the papers alone. Every call answers a number first: 0, or the number that the document refuses it under.
 """
 
 MOST_NODES = 32
@@ -91,13 +91,17 @@ def offer(network, sender, receiver):
 
 
 def new_row(network, receiver):
-    """The row from held reports and present costs alone, or None."""
-    best = None
+    """The row from held reports and present costs alone, or None: the least sum, then the fewest ones in its list, then the lowest sender."""
+    offers = []
     for sender in range(network.n):
         total = offer(network, sender, receiver)
-        if total is not None and (best is None or total < best[0]):
-            best = total, sender, network.held[sender, receiver][1] | bit(receiver)
-    return best
+        if total is not None:
+            nodes = network.held[sender, receiver][1]
+            offers.append((total, bin(nodes).count("1"), sender, nodes))
+    if not offers:
+        return None
+    total, _, sender, nodes = min(offers)
+    return total, sender, nodes | bit(receiver)
 
 
 def hear(network, arcs):

@@ -1,4 +1,5 @@
-// Document 01 in plain Rust, written from the document alone: opening, events, rounds, changes, grades, image writing, and the table of `routes`.
+// Document 01 with change request One in plain Rust, written from the papers alone: opening, events, rounds, changes, grades, image writing, and the
+// table of `routes`.
 // Clear rather than quick: an ancestor list is a set of nodes, arcs and held reports are maps by sender and receiver.
 // Built by itself it is a program: `reference text` prints what `routes` prints for the run on standard input, `reference image` writes the run's image.
 
@@ -111,17 +112,17 @@ impl Network {
 
     /// The row that a relay gets from its held reports and present costs.
     fn chosen_row(&self, receiver: u8) -> Option<Row> {
-        let mut offers: Vec<(u32, u8)> = Vec::new();
+        let mut offers: Vec<(u32, usize, u8)> = Vec::new();
         for (&(sender, to), report) in &self.reports {
             if to == receiver && !report.list.contains(&receiver) {
                 let sum = report.label + u32::from(self.arcs[&(sender, to)]);
                 if sum <= MAX_LABEL {
-                    offers.push((sum, sender));
+                    offers.push((sum, report.list.len(), sender));
                 }
             }
         }
-        // The least sum, and the lowest sender among equal sums.
-        let &(label, sender) = offers.iter().min()?;
+        // The least sum; among equal sums the report that lists the fewest nodes, and then the lowest sender.
+        let &(label, _, sender) = offers.iter().min()?;
         let mut list = self.reports[&(sender, receiver)].list.clone();
         list.insert(receiver);
         Some(Row { label, predecessor: Some(sender), list })
