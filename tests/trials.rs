@@ -191,16 +191,25 @@ struct Counts {
     /// Labels before (n-1)W rounds.
     midway: Tally,
     labels: Tally,
+    /// Relays with routes of the least cost by different numbers of arcs.
+    ties: Tally,
     /// Rows after (n-1)W rounds.
     early: Tally,
+    /// Rows after (2n-4)W rounds, n from 3: one round before all are settled.
+    nearly: Tally,
     rows: Tally,
 }
 
 impl Counts {
-    /// All that is wrong, but not in the two kinds that come too early.
+    /// All that is wrong, but not in the three kinds that come too early.
     fn differences(&self) -> u64 {
         let kinds = [self.changes, self.garbage, self.refused, self.reopened, self.costs, self.rounds, self.labels, self.rows];
         kinds.iter().map(|tally| tally.wrong).sum()
+    }
+
+    /// Whether a further difference is told.
+    fn tell(&self) -> bool {
+        self.differences() < 8
     }
 
     fn print(&self, seed: u64, fields: u64) {
@@ -215,8 +224,10 @@ impl Counts {
         println!("refused rounds {}, different {}, rounds {}", self.rounds.tried, self.rounds.wrong, self.rounds.other);
         println!("labels before (n-1)W rounds {}, false {}, undecided {}", self.midway.tried, self.midway.wrong, self.midway.other);
         println!("labels from (n-1)W rounds on {}, false {}, undecided {}", self.labels.tried, self.labels.wrong, self.labels.other);
+        println!("relays with equal costs by different arcs {}, predecessor not the lowest {}", self.ties.tried, self.ties.other);
         println!("rows after (n-1)W rounds {}, not settled {}", self.early.tried, self.early.wrong);
-        println!("rows from 2(n-1)W rounds on {}, different {}, without a route {}", self.rows.tried, self.rows.wrong, self.rows.other);
+        println!("rows after (2n-4)W rounds, n from 3, {}, not settled {}", self.nearly.tried, self.nearly.wrong);
+        println!("rows from one round later on {}, different {}, without a route {}", self.rows.tried, self.rows.wrong, self.rows.other);
         println!("differences {}", self.differences());
     }
 }
@@ -252,10 +263,13 @@ impl Setting {
     }
 }
 
-/// What pairs are set to, by kind: the least, and how many.
-const SETTINGS: [(fn(u32) -> Setting, u32, u32); 13] = [
+/// What a pair is set to: the least, and how many.
+type Kind = (fn(u32) -> Setting, u32, u32);
+
+const SETTINGS: [Kind; 14] = [
     (Cost, 1, 1),
     (Cost, 65_535, 1),
+    (Cost, 1, 2),
     (Cost, 1, 3),
     (Cost, 1, 65_535),
     (Cost, 60_536, 5_000),
@@ -270,13 +284,14 @@ const SETTINGS: [(fn(u32) -> Setting, u32, u32); 13] = [
     (Grade, 0, 16),
 ];
 /// The kinds of dear and of cheap pairs.
-const DEAR: usize = 8;
-const CHEAP: usize = 2;
+const DEAR: usize = 9;
+const CHEAP: usize = 3;
 /// The first of the kinds for changes alone.
-const CHANGES: usize = 9;
+const CHANGES: usize = 10;
 
 /// Shapes of fields: how far apart on the field's line an arc's nodes can be; then of 64 such pairs how many have an arc, the least, and how many more.
-const SHAPES: [(u32, u32, u32); 8] = [(1, 64, 1), (1, 60, 5), (2, 60, 5), (32, 64, 1), (32, 64, 1), (32, 1, 64), (32, 1, 20), (32, 1, 8)];
+const SHAPES: [(u32, u32, u32); 9] =
+    [(1, 64, 1), (1, 60, 5), (2, 60, 5), (4, 20, 45), (32, 64, 1), (32, 64, 1), (32, 1, 64), (32, 1, 20), (32, 1, 8)];
 
 const MOST_LABEL: u32 = 2_031_585;
 /// Labels of garbage, by kind: the least, and how many. Many are temptingly low.
@@ -330,21 +345,28 @@ impl Field {
         (node + shift) % self.nodes
     }
 
-    /// The kind of a pair: the field's; or dear from the origin and cheap elsewhere; or dear up the line and cheap down.
-    fn kind(&self, s: u32, r: u32) -> usize {
-        let dear = match self.seed.pick(11, 12) {
-            kind @ 0..=7 => return kind as usize,
-            8 | 9 => s == self.origin,
+    /// How far apart on the field's line two nodes are.
+    fn apart(&self, s: u32, r: u32) -> u32 {
+        self.place(s).abs_diff(self.place(r))
+    }
+
+    /// The kind of a pair: the field's; or a cost of how far apart the nodes are, so that routes along the line cost the same whatever their arcs; or
+    /// dear from the origin and cheap elsewhere; or dear up the line and cheap down.
+    fn kind(&self, s: u32, r: u32) -> Kind {
+        let dear = match self.seed.pick(11, 15) {
+            kind @ 0..=8 => return SETTINGS[kind as usize],
+            9 | 10 => return (Cost, self.apart(s, r), 1),
+            11 | 12 => s == self.origin,
             _ => self.place(s) < self.place(r),
         };
-        if dear { DEAR } else { CHEAP }
+        SETTINGS[if dear { DEAR } else { CHEAP }]
     }
 
     /// Whether a pair of different nodes has an arc at first.
     fn planted(&self, s: u32, r: u32) -> bool {
-        let (reach, least, more) = SHAPES[self.seed.pick(12, 8) as usize];
+        let (reach, least, more) = SHAPES[self.seed.pick(12, 9) as usize];
         let many = least + self.seed.pick(13, more);
-        self.place(s).abs_diff(self.place(r)) <= reach && self.seed.chance(1000 + u64::from(s * 32 + r), many)
+        self.apart(s, r) <= reach && self.seed.chance(1000 + u64::from(s * 32 + r), many)
     }
 
     /// The tally of one comparison of numbers.
@@ -397,13 +419,26 @@ impl Loss {
         }
     }
 
-    /// After how many rounds a stretch begins and its comparisons come: midway, half the time just before (n-1)W; (n-1)W; on the way; 2(n-1)W; and a
-    /// few more.
-    fn stops(&self, n: u32) -> [u32; 6] {
+    fn stops(&self, n: u32) -> Stops {
         let all = (n - 1) * self.window;
         let midway = if all == 0 || self.seed.chance(6, 32) { self.seed.pick(5, all) } else { all - 1 };
-        [0, midway, all, all + self.seed.pick(7, all), 2 * all, 2 * all + self.seed.pick(8, 4)]
+        let settled = if n < 3 { all } else { (2 * n - 4) * self.window + 1 };
+        Stops { midway, all, later: all + self.seed.pick(7, all), settled, last: 2 * all + self.seed.pick(8, 4) }
     }
+}
+
+/// After how many rounds of a stretch its comparisons come.
+struct Stops {
+    /// Half the time just before (n-1)W.
+    midway: u32,
+    /// (n-1)W: labels are real.
+    all: u32,
+    /// From there to 2(n-1)W.
+    later: u32,
+    /// (2n-4)W + 1, or (n-1)W where n is 1 or 2: rows are settled.
+    settled: u32,
+    /// 2(n-1)W and a few more.
+    last: u32,
 }
 
 /// A stretch: its arcs, its losses, and what was heard in the last eight rounds by receiver and round modulo 8.
@@ -466,8 +501,7 @@ impl Trial<'_> {
     // ---- changes
 
     /// Sets a pair to one of a kind, in the core and in the costs. By the rule a removed and a new arc hold no report.
-    fn set(&mut self, seed: Seed, kind: usize, s: u32, r: u32) {
-        let (make, least, many) = SETTINGS[kind];
+    fn set(&mut self, seed: Seed, (make, least, many): Kind, s: u32, r: u32) {
         let setting = make(least + seed.pick(1, many));
         let (old, new) = (self.costs.get(s, r), setting.cost());
         let held = if old == 0 || new == 0 { 0 } else { self.net.held(s, r) };
@@ -497,7 +531,7 @@ impl Trial<'_> {
             let s = seed.pick(2, n);
             let r = seed.other(3, n, s);
             let kind = match seed.pick(4, 8) as usize {
-                k @ 0..=3 => CHANGES + k,
+                k @ 0..=3 => SETTINGS[CHANGES + k],
                 _ => self.field.kind(s, r),
             };
             self.set(seed, kind, s, r);
@@ -644,18 +678,20 @@ impl Trial<'_> {
 
     // ---- stretches
 
-    /// The rounds of a stretch and, at each stop, its comparisons.
+    /// The rounds of a stretch, and its comparisons.
     fn stretch(&mut self, seed: Seed) {
         self.counts.stretches += 1;
         self.check_costs();
         let settled = Settled::calculate(&self.costs, self.field.origin);
+        self.counts.ties += self.ties(&settled);
         let loss = Loss::new(seed);
         let stops = loss.stops(self.field.nodes);
         let past = [[if loss.pattern == 1 { u32::MAX } else { 0 }; 8]; 32];
         let mut stretch = Stretch { arcs: self.costs.arcs(), loss, past };
-        for (k, leg) in stops.windows(2).enumerate() {
-            (leg[0]..leg[1]).for_each(|t| self.round(&mut stretch, t));
-            self.check(&settled, k);
+        self.check(&settled, &stops, 0);
+        for t in 0..stops.last {
+            self.round(&mut stretch, t);
+            self.check(&settled, &stops, t + 1);
         }
     }
 
@@ -669,18 +705,24 @@ impl Trial<'_> {
         self.counts.rounds += Tally { wrong: u64::from(number != 0), ..Tally::OTHER };
     }
 
-    /// At the stops: labels midway, where some are false and some not decided; labels from (n-1)W rounds on, and rows, of which some are not settled
-    /// at first; settled rows.
-    fn check(&mut self, settled: &Settled, stop: usize) {
-        let tell = self.field.tell;
-        match stop {
-            0 => self.counts.midway += self.labels(settled, false, FEW_STEPS),
-            1 => {
-                self.counts.labels += self.labels(settled, tell, STEPS);
-                self.counts.early += self.rows(settled, false);
-            }
-            2 => self.counts.labels += self.labels(settled, tell, STEPS),
-            _ => self.counts.rows += self.rows(settled, tell),
+    /// After t rounds: labels midway, where some are false and some not decided; labels from (n-1)W rounds on; rows there and one round before all are
+    /// settled, where some are not; settled rows.
+    fn check(&mut self, settled: &Settled, stops: &Stops, t: u32) {
+        let tell = self.counts.tell();
+        if t == stops.midway {
+            self.counts.midway += self.labels(settled, false, FEW_STEPS);
+        }
+        if t == stops.all || t == stops.later {
+            self.counts.labels += self.labels(settled, tell, STEPS);
+        }
+        if t == stops.all {
+            self.counts.early += self.rows(settled, false);
+        }
+        if 2 < self.field.nodes && t + 1 == stops.settled {
+            self.counts.nearly += self.rows(settled, false);
+        }
+        if stops.settled <= t {
+            self.counts.rows += self.rows(settled, tell);
         }
     }
 
@@ -694,6 +736,18 @@ impl Trial<'_> {
             tally += self.field.same(self.field.tell && tally.wrong == 0, "cost", r, expected, self.net.cost(s, r));
         }
         self.counts.costs += tally;
+    }
+
+    /// The relays whose givers differ in fewest arcs; the further kind are those of them whose predecessor is not the lowest giver.
+    fn ties(&self, settled: &Settled) -> Tally {
+        let mut tally = Tally::default();
+        for y in 0..self.field.nodes {
+            let givers: Vec<_> = settled.givers(&self.costs, y).collect();
+            if givers.iter().any(|giver| giver.0 != givers[0].0) {
+                tally += Tally { tried: 1, wrong: 0, other: u64::from(givers[0].1 != settled.row(y).predecessor) };
+            }
+        }
+        tally
     }
 
     /// Whether the label of each relay that has a route is the cost of a real route.
@@ -755,7 +809,7 @@ fn main() {
     let mut at = Seed(seed);
     for k in 0..count {
         at = at.part(k);
-        let field = Field::new(at, k + 1, counts.differences() < 8);
+        let field = Field::new(at, k + 1, counts.tell());
         let net = Network::fresh(field.nodes, field.origin);
         Trial { field, net, costs: Costs::none(), counts: &mut counts }.run();
     }
