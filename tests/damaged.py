@@ -7,6 +7,7 @@ Prints how often each call answered each number. Exits with status 1 where an an
 """
 
 import ctypes
+import itertools
 import random
 import sys
 
@@ -165,14 +166,16 @@ def some_list(rng, n, node):
 
 
 def some_network(rng, n, density):
+    """Half of the costs and of the labels held are small, so that equal offers are frequent."""
     network = reader.Network(n, rng.randrange(n))
     for sender in range(n):
         for receiver in range(n):
             if sender != receiver and rng.random() < density:
-                network.cost[sender, receiver] = rng.choice([1, 65535, rng.randrange(1, 10), rng.randrange(1, 65536)])
+                network.cost[sender, receiver] = rng.choice([1, rng.randrange(1, 4), rng.randrange(1, 4), 65535, rng.randrange(1, 10), rng.randrange(1, 65536)])
                 if rng.random() < density:
-                    label = rng.choice([0, reader.MOST_LABEL, rng.randrange(30), rng.randrange(reader.MOST_LABEL + 1), reader.MOST_LABEL - rng.randrange(10)])
-                    network.held[sender, receiver] = label, some_list(rng, n, sender)
+                    small = rng.randrange(4)
+                    great = [reader.MOST_LABEL, rng.randrange(reader.MOST_LABEL + 1), reader.MOST_LABEL - rng.randrange(10)]
+                    network.held[sender, receiver] = rng.choice([small, small, small, 0, rng.randrange(30), *great]), some_list(rng, n, sender)
     for node in range(n):
         if node != network.origin and rng.random() < density:
             predecessor = rng.choice([y for y in range(n) if y != node])
@@ -473,6 +476,18 @@ def fixed_cases(compare):
         compare.run(image + bytes([value]) + bytes(128))
 
 
+def equal_cases(compare):
+    """Three offers of 6 or 7, from reports with one to three ones, in every order."""
+    for labels in itertools.product((5, 6), repeat=3):
+        for others in itertools.product((0, reader.bit(0), reader.bit(0) | reader.bit(5)), repeat=3):
+            network = reader.Network(6, 0)
+            for sender, label, nodes in zip((1, 2, 3), labels, others):
+                network.cost[sender, 4] = 1
+                network.held[sender, 4] = label, nodes | reader.bit(sender)
+            compare.open(reader.image(network))
+            compare.call("round", network, [0] * 32)
+
+
 def full_cases(compare, count):
     """Networks of 32 nodes with every arc, row and report, damaged too, and inputs longer than any image."""
     rng = compare.rng
@@ -527,6 +542,7 @@ def main(arguments):
     print(f"seed {seed}, {count} random damaged images", flush=True)
     compare = Comparison(Library(library), random.Random(seed))
     fixed_cases(compare)
+    equal_cases(compare)
     full_cases(compare, 1 + count // 10_000)
     random_cases(compare, count)
     print("call      cases" + "".join(f"{number:8}" for number in range(10)))
