@@ -227,7 +227,7 @@ impl Counts {
         println!("relays with equal costs by different arcs {}, predecessor not the lowest {}", self.ties.tried, self.ties.other);
         println!("rows after (n-1)W rounds {}, not settled {}", self.early.tried, self.early.wrong);
         println!("rows after (2n-4)W rounds, n from 3, {}, not settled {}", self.nearly.tried, self.nearly.wrong);
-        println!("rows from one round later on {}, different {}, without a route {}", self.rows.tried, self.rows.wrong, self.rows.other);
+        println!("rows from the exact bound on {}, different {}, without a route {}", self.rows.tried, self.rows.wrong, self.rows.other);
         println!("differences {}", self.differences());
     }
 }
