@@ -125,7 +125,10 @@ struct kind {
     work proved, plain;
 };
 
-/* in the last four most relays don't hear the origin: at costs of 1 most of their offers are equal, at 1 and 2 many, from lists of different length */
+/*
+ * in the last four most relays, from 8 nodes on, don't hear the origin: at costs of 1 most of their offers are equal, at 1 and 2 some, from lists of
+ * different length
+ */
 static const struct kind kinds[] = {
     {"full round, dense", 1, 1, 600, 0, proved_full, plain_full},
     {"marked, none lost, dense", 1, 1, 600, 0, proved_marked, plain_marked},

@@ -96,7 +96,7 @@ impl Settled {
         self.rows[node as usize]
     }
 
-    /// The senders that give a node its least cost, each after the fewest arcs of a route of least cost to it.
+    /// The senders that give a node its least cost, ascending: the fewest arcs of a route of least cost to the sender, and the sender.
     pub fn givers<'a>(&'a self, costs: &'a Costs, node: u32) -> impl Iterator<Item = (u32, u32)> + 'a {
         let gives = move |&s: &u32| self.way(costs, s, node) == Some(self.least(node));
         (0..MOST_NODES).filter(gives).map(|s| (self.row(s).hops, s))
