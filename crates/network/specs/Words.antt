@@ -1,4 +1,4 @@
--- What the leaf functions get and answer: reports and costs as slices of words, by sender, and the enum of a choice.
+-- What the leaf functions get and answer: reports and costs as slices of words, by sender, an offer below a limit, and the enum of a choice.
 -- Assumes nothing.
 use mathlib.Core.Bool.{Bool, cond, not, _||_}
 use mathlib.Core.List.{List}
@@ -8,6 +8,8 @@ use lib.ListN.{length, getD}
 use Rattle.network.specs.Faults.{maxNodes}
 use Rattle.network.specs.Network.{Row, none, via, Report, empty, told}
 use Rattle.network.specs.Round.{choice}
+use Rattle.network.specs.declared.Offer.{Offer}
+use Rattle.network.specs.declared.Offer.the-variants.{Nothing, Sum}
 use Rattle.network.specs.declared.Choice.{Choice}
 use Rattle.network.specs.declared.Choice.the-variants.{Refused, NoRoute, Route}
 
@@ -21,6 +23,11 @@ reports labels lists s = reportOf (getD labels s 0) (getD lists s 0)
 
 abbrev pub costsOf : List ℕ → ℕ → ℕ
 costsOf costs s = getD costs s 0
+
+-- an offer below a limit, and nothing in place of any other
+unfoldable pub offerBelow : ℕ → Offer → Offer
+offerBelow m Nothing = Nothing
+offerBelow m (Sum v) = cond (ltb v m) (Sum v) Nothing
 
 -- more than 32 senders, not a cost, a label and a list for each, or a receiver above 31
 unfoldable pub wordsFault : List ℕ → List ℕ → List ℕ → ℕ → Bool

@@ -6,16 +6,12 @@ ghost use mathlib.Core.Path.{_≡_};
 ghost use Prim.Native.Nat.{_+_, _^_, _<_, _≤_};
 ghost use lib.Dec.{leb};
 ghost use lib.ListN.{length};
-ghost use lib.Count.{ones};
-ghost use Rattle.network.specs.Faults.{pairFault, listFault, rowFault, reportFault};
-ghost use Rattle.network.specs.Round.{offer, goesBefore, choice};
+ghost use Rattle.network.specs.Faults.{maxLabel, pairFault, listFault, rowFault, reportFault};
+ghost use Rattle.network.specs.Round.{offer, choice};
 ghost use Rattle.network.specs.Change.{gradeCost};
-ghost use Rattle.network.specs.Words.{reportOf, reports, costsOf, chosen, chooseOf, choiceMeans};
+ghost use Rattle.network.specs.Words.{reportOf, reports, costsOf, offerBelow, chosen, chooseOf, choiceMeans};
 use network::Choice;
 use network::Offer;
-
-// The largest offer.
-const MAX_SUM: u64 = network::MAX_LABEL as u64;
 
 // The cost of each grade; grade 0 removes the arc.
 const GRADES: [u32; 16] = [
@@ -128,36 +124,27 @@ fn total(label: u32, cost: u32) -> u64
     wide(label) + wide(cost)
 }
 
-// The offer of a report, given as two words, over an arc of this cost.
-fn offer_of(label: u32, list: u32, cost: u32, receiver: u32) -> Offer
-    ensures { λ r. ⌜ r ≡ offer receiver cost (reportOf label list) ⌝ }
+// The offer of a report, given as two words, over an arc of this cost, if it is below a limit. The sum is tested first: where it is too large the
+// list need not be read.
+fn offer_below(label: u32, list: u32, cost: u32, receiver: u32, limit: u32) -> Offer
+    requires { ⌜ limit ≤ maxLabel + 1 ⌝ }
+    ensures { λ r. ⌜ r ≡ offerBelow limit (offer receiver cost (reportOf label list)) ⌝ }
 {
+    let sum = total(label, cost);
+    if wide(limit) <= sum {
+        return Offer::Nothing;
+    }
     if list == 0 {
         return Offer::Nothing;
     }
     if ancestors::listed(list, receiver) {
         return Offer::Nothing;
     }
-    let sum = total(label, cost);
-    if MAX_SUM < sum {
-        return Offer::Nothing;
-    }
     Offer::Sum(sum as u32)
 }
 
-// Whether an offer goes before the best so far: a lesser sum, and among equal offers fewer ones in the report's list.
-fn goes_before(sum: u32, list: u32, best: u32, kept: u32) -> bool
-    ensures { λ b. ⌜ b ≡ goesBefore sum (ones list) best (ones kept) ⌝ }
-{
-    let nodes = ancestors::count_nodes(list);
-    let fewest = ancestors::count_nodes(kept);
-    if sum != best {
-        return sum < best;
-    }
-    nodes < fewest
-}
-
-// The least offer of the senders, of equals that of fewest ones, and then the lowest sender's.
+// The least offer of the senders, of equals that of fewest ones, and then the lowest sender's: first the least sum and the first sender that
+// offers it, then the later ones that do.
 fn least_offer(costs: &[u32], labels: &[u32], lists: &[u32], receiver: u32) -> Choice
     requires { ⌜ length (now costs) ≤ 32 ⌝ }
     requires { ⌜ length (now labels) ≡ length (now costs) ⌝ }
@@ -166,27 +153,35 @@ fn least_offer(costs: &[u32], labels: &[u32], lists: &[u32], receiver: u32) -> C
     ensures { λ r. ⌜ choiceMeans r ≡ chosen (choice (length (now (costs .entry))) (costsOf (now (costs .entry))) (reports (now (labels .entry)) (now (lists .entry))) receiver) ⌝ }
 {
     let n = costs.len();
-    let mut best = network::MAX_LABEL + 1;
-    let mut from = 0usize;
-    let mut kept = 0u32;
+    let mut least = network::MAX_LABEL + 1;
+    let mut first = 0usize;
     for s in 0..n {
-        let list = lists[s];
-        let Offer::Sum(sum) = offer_of(labels[s], list, costs[s], receiver) else {
+        let Offer::Sum(sum) = offer_below(labels[s], lists[s], costs[s], receiver, least) else {
             continue;
         };
-        if goes_before(sum, list, best, kept) {
-            best = sum;
-            from = s;
-            kept = list;
-        }
+        least = sum;
+        first = s;
     }
-    if network::MAX_LABEL < best {
+    if network::MAX_LABEL < least {
         return Choice::NoRoute;
     }
+    let mut from = first;
+    let mut fewest = ancestors::count_nodes(lists[first]);
+    for s in first + 1..n {
+        let list = lists[s];
+        let Offer::Sum(_) = offer_below(labels[s], list, costs[s], receiver, least + 1) else {
+            continue;
+        };
+        let nodes = ancestors::count_nodes(list);
+        if nodes < fewest {
+            from = s;
+            fewest = nodes;
+        }
+    }
     Choice::Route {
-        label: best,
+        label: least,
         predecessor: from as u32,
-        list: ancestors::joined(kept, receiver),
+        list: ancestors::joined(lists[from], receiver),
     }
 }
 
