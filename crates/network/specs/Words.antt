@@ -7,7 +7,7 @@ use lib.Dec.{eqb, ltb, leb}
 use lib.ListN.{length, getD}
 use Rattle.network.specs.Faults.{maxNodes}
 use Rattle.network.specs.Network.{Row, none, via, Report, empty, told}
-use Rattle.network.specs.Round.{choice}
+use Rattle.network.specs.Round.{offer, onesIn, choice}
 use Rattle.network.specs.declared.Offer.{Offer}
 use Rattle.network.specs.declared.Offer.the-variants.{Nothing, Sum}
 use Rattle.network.specs.declared.Choice.{Choice}
@@ -23,6 +23,17 @@ reports labels lists s = reportOf (getD labels s 0) (getD lists s 0)
 
 abbrev pub costsOf : List ℕ → ℕ → ℕ
 costsOf costs s = getD costs s 0
+
+-- the offers that words make to y, and the ones of their reports, by sender
+abbrev pub offersOf : List ℕ → List ℕ → List ℕ → ℕ → ℕ → Offer
+offersOf costs labels lists y s = offer y (costsOf costs s) (reports labels lists s)
+
+abbrev pub onesOf : List ℕ → List ℕ → ℕ → ℕ
+onesOf labels lists s = onesIn (reports labels lists s)
+
+-- the same ones for every sender: among equal offers the lowest-numbered sender wins
+abbrev pub alike : ℕ → ℕ
+alike s = 0
 
 -- an offer below a limit, and nothing in place of any other
 unfoldable pub offerBelow : ℕ → Offer → Offer

@@ -13,7 +13,7 @@ use memory::ROW_PREDECESSORS;
 use network::Choice;
 ghost use mathlib.Core.Path.{_≡_};
 ghost use mathlib.Core.Logic.{_≢_};
-ghost use mathlib.Core.Bool.{_||_, _&&_, cond};
+ghost use mathlib.Core.Bool.{_&&_, cond};
 ghost use Prim.Native.Nat.{_<_, _≤_};
 ghost use lib.ListN.{length};
 ghost use lib.Dec.{eqb, ltb};
@@ -196,12 +196,6 @@ fn stray_row(n: u32, receiver: u32, word: u32) -> bool
     rule::bit_beyond(n, word)
 }
 
-fn or(a: bool, b: bool) -> bool
-    ensures { λ r. ⌜ r ≡ (a || b) ⌝ }
-{
-    a || b
-}
-
 fn stray_marks(n: u32, marks: &[u32]) -> bool
     requires { ⌜ n ≤ 32 ⌝ }
     requires { ⌜ length (now marks) ≡ 32 ⌝ }
@@ -209,7 +203,7 @@ fn stray_marks(n: u32, marks: &[u32]) -> bool
 {
     let mut found = false;
     for r in 0u32..32 {
-        found = or(found, stray_row(n, r, marks[r as usize]));
+        found = rule::or(found, stray_row(n, r, marks[r as usize]));
     }
     found
 }
@@ -230,7 +224,7 @@ fn idle_row(net: &[u32], n: usize, receiver: usize, word: u32) -> bool
     let base = COSTS + receiver * 32;
     let mut found = false;
     for s in 0..n {
-        found = or(
+        found = rule::or(
             found,
             idle_mark(ancestors::listed(word, s as u32), net[base + s]),
         );
@@ -246,7 +240,7 @@ fn idle_marks(net: &[u32], n: usize, marks: &[u32]) -> bool
 {
     let mut found = false;
     for r in 0..n {
-        found = or(found, idle_row(net, n, r, marks[r]));
+        found = rule::or(found, idle_row(net, n, r, marks[r]));
     }
     found
 }

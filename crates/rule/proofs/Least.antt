@@ -1,7 +1,7 @@
 -- The winner as two loops find it: the first sets the least sum, above the largest label where there is none, and the first sender that offers it;
 -- the second goes on from there among the senders that offer it too.
 -- Assumes nothing.
-use mathlib.Core.Path.{_≡_, refl, sym, ap, subst, subst₂, _∙_}
+use mathlib.Core.Path.{_≡_, refl, sym, ap, subst, _∙_}
 use mathlib.Core.Bool.{Bool, true, false, cond, _||_}
 use mathlib.Core.Logic.{_⊎_, inl, inr, _≢_}
 use mathlib.Core.List.{List}
@@ -17,9 +17,9 @@ use Rattle.ancestors.proofs.Cases.{le-or-lt, eq-or-ne, bool-cases, clash}
 use Rattle.ancestors.proofs.Laws.{ones-count}
 use Rattle.network.specs.Faults.{maxLabel}
 use Rattle.network.specs.Network.{none, via, Report, empty, told}
-use Rattle.network.specs.Round.{offer, listOf, onesIn, goesBefore, Winner, nobody, sender, against, winner, rowBy, choice}
-use Rattle.network.specs.Words.{reportOf, reports, costsOf, offerBelow}
-use Rattle.network.proofs.Offers.{nothing-sum, Before, Won, no-one, some-one, won}
+use Rattle.network.specs.Round.{offer, listOf, goesBefore, Winner, nobody, sender, against, winner, rowBy, choice}
+use Rattle.network.specs.Words.{reportOf, reports, costsOf, offersOf, onesOf, alike, offerBelow}
+use Rattle.network.proofs.Offers.{nothing-sum, Before, before-once, Won, no-one, some-one, won}
 use Rattle.network.specs.declared.Offer.{Offer}
 use Rattle.network.specs.declared.Offer.the-variants.{Nothing, Sum}
 
@@ -83,10 +83,6 @@ module _ (v i u j : ℕ) where
   unfolding goesBefore
   equal e = rw (le-ltb v u (omega arith), eq-eqb v u e)
 
--- the same ones for every sender: the lowest sender wins among equals
-abbrev pub alike : ℕ → ℕ
-alike s = 0
-
 -- an offer is at most the largest label
 pub sum-small : (y c : ℕ) (h : Report) (v : ℕ) → offer y c h ≡ Sum v → v ≤ maxLabel
 unfolding offer
@@ -108,29 +104,60 @@ list-of-words d l = go (eq-or-ne l 0)
     go (inl e) = rw e
     go (inr n) = rw (ne-eqb l 0 n)
 
--- the offers that the words make to y, and the ones of their reports, by sender
-abbrev pub offers : List ℕ → List ℕ → List ℕ → ℕ → ℕ → Offer
-offers costs labels lists y s = offer y (costsOf costs s) (reports labels lists s)
-
-abbrev pub onesOf : List ℕ → List ℕ → ℕ → ℕ
-onesOf labels lists s = onesIn (reports labels lists s)
-
 -- the ones of a report in two words are the nodes of its list, counted
 pub ones-of-nodes : (labels lists : List ℕ) (s k : ℕ) → getD lists s 0 < 2 ^ 32 → k ≡ count (has (getD lists s 0)) 32 → k ≡ onesOf labels lists s
 ones-of-nodes labels lists s k fits e =
     e ∙ sym (ones-count 32 (getD lists s 0) fits) ∙ ap ones (sym (list-of-words (getD labels s 0) (getD lists s 0)))
 
+-- an offer of two words is label plus cost
+sum-is : (y c d l v : ℕ) → offer y c (reportOf d l) ≡ Sum v → v ≡ d + c
+unfolding reportOf offer
+sum-is y c d l v e = go (eq-or-ne l 0) e
+  where
+    told-sum : (t : Bool) → cond t Nothing (Sum (d + c)) ≡ Sum v → v ≡ d + c
+    told-sum true q = clash cc
+    told-sum false q = cc
+
+    go : (l ≡ 0) ⊎ (l ≢ 0) → offer y c (cond (eqb l 0) empty (told d l)) ≡ Sum v → v ≡ d + c
+    go (inl k) q = let n : Nothing ≡ Sum v = rw (eq-eqb l 0 k) at q in clash cc
+    go (inr k) q = told-sum (has l y || ltb maxLabel (d + c)) (rw (ne-eqb l 0 k) at q)
+
+-- ---- who won
+
+module _ (f : ℕ → Offer) (c : ℕ → ℕ) (n : ℕ) where
+  -- at most one
+  won-once : (v w : Winner) → Won f c n v → Won f c n w → v ≡ w
+  won-once nobody nobody a b = refl
+  won-once nobody (sender s u) (no-one none-offer) (some-one below its low) = nothing-sum (f s) (none-offer s below) its
+  won-once (sender s u) nobody (some-one below its low) (no-one none-offer) = nothing-sum (f s) (none-offer s below) its
+  won-once (sender s u) (sender r v) (some-one below its low) (some-one below′ its′ low′) = go (eq-or-ne s r)
+    where
+      go : (s ≡ r) ⊎ (s ≢ r) → sender s u ≡ sender r v
+      go (inl e) = let t : f r ≡ Sum u = rw e at its in let same : u ≡ v = cc in rw (e, same)
+      go (inr e) = absurd (before-once (low r v below′ (λ q. e (sym q)) its′) (low′ s u below e its))
+
+  -- a sender among the n
+  pub won-below : (s u : ℕ) → winner f c n ≡ sender s u → s < n
+  won-below s u e = go (subst (Won f c n) e (won f c n))
+    where
+      go : Won f c n (sender s u) → s < n
+      go (some-one below its low) = below
+
 -- ---- the two loops
 
 module _ (costs labels lists : List ℕ) (y : ℕ) where
   abbrev f : ℕ → Offer
-  f = offers costs labels lists y
+  f = offersOf costs labels lists y
 
   abbrev g : ℕ → ℕ
   g = onesOf labels lists
 
   small : (s v : ℕ) → f s ≡ Sum v → v ≤ maxLabel
   small s v o = sum-small y (costsOf costs s) (reports labels lists s) v o
+
+  -- no sender after p and before s offers b or less
+  abbrev pub Alone : ℕ → ℕ → ℕ → Type 0
+  Alone b p s = (r v : ℕ) → p < r → r < s → f r ≡ Sum v → b < v
 
   pub first-none : winner f alike 0 ≡ winnerOf (maxLabel + 1) 0
   unfolding winner winnerOf
@@ -156,14 +183,34 @@ module _ (costs labels lists : List ℕ) (y : ℕ) where
         let k = small s v (o .0) in
         (take f alike s b p e v (o .0) k (λ _. lesser v 0 b 0 (o .1)), k)
 
+  -- passed with another sum than b, it leaves p alone
+  pub alone-pass : (s b p : ℕ) → Alone b p s → offerBelow b (f s) ≡ Nothing → getD labels s 0 + costsOf costs s ≢ b → Alone b p (s + 1)
+  alone-pass s b p before h apart r v after below o = go (eq-or-ne r s)
+    where
+      last : f s ≡ Sum v → (f s ≡ Nothing) ⊎ ((u : ℕ) × (f s ≡ Sum u) × (b ≤ u)) → b < v
+      last q (inl n) = nothing-sum (f s) n q
+      last q (inr (u, t, k)) =
+          let same : u ≡ v = cc in
+          let total : v ≡ getD labels s 0 + costsOf costs s = sum-is y (costsOf costs s) (getD labels s 0) (getD lists s 0) v q in
+          omega (arith, apart)
+
+      go : (r ≡ s) ⊎ (r ≢ s) → b < v
+      go (inl e) = let q : f s ≡ Sum v = rw e at o in last q (below-nothing b (f s) h)
+      go (inr e) = before r v after (omega (arith, e)) o
+
   -- after the first loop
-  module _ (n b p : ℕ) (fits : b ≤ maxLabel) (e : winner f alike n ≡ winnerOf b p) where
+  module _ (n b p : ℕ) (e : winner f alike n ≡ sender p b) where
     first-won : Won f alike n (sender p b)
-    unfolding winnerOf
-    first-won = subst (Won f alike n) (e ∙ rw (le-leb b maxLabel fits)) (won f alike n)
+    first-won = subst (Won f alike n) e (won f alike n)
+
+    pub least-fits : b ≤ maxLabel
+    least-fits = go first-won
+      where
+        go : Won f alike n (sender p b) → b ≤ maxLabel
+        go (some-one below its low) = small p b its
 
     -- no offer is less
-    pub none-less : (r v : ℕ) → r < n → f r ≡ Sum v → b ≤ v
+    none-less : (r v : ℕ) → r < n → f r ≡ Sum v → b ≤ v
     none-less r v h o = go first-won (eq-or-ne r p)
       where
         go : Won f alike n (sender p b) → (r ≡ p) ⊎ (r ≢ p) → b ≤ v
@@ -175,19 +222,37 @@ module _ (costs labels lists : List ℕ) (y : ℕ) where
             least (inl (inr a)) = omega arith
             least (inr a) = omega arith
 
-    -- the sender found wins up to itself
+    -- a lower sender offers more
+    more-before : (r v : ℕ) → r < p → f r ≡ Sum v → b < v
+    more-before r v h o = go first-won
+      where
+        less : Before b 0 p v 0 r → b < v
+        less (inl (inl a)) = a
+        less (inl (inr a)) = absurd (omega arith)
+        less (inr a) = absurd (omega arith)
+
+        go : Won f alike n (sender p b) → b < v
+        go (some-one below its low) = less (low r v (omega arith) (λ q. omega arith) o)
+
+    -- where the least sum is not met again, its sender wins
+    pub alone-wins : Alone b p n → winner f g n ≡ sender p b
+    alone-wins alone = won-once f g n (winner f g n) (sender p b) (won f g n) (go first-won)
+      where
+        more : (r v : ℕ) → r < n → r ≢ p → f r ≡ Sum v → (r ≤ p) ⊎ (p < r) → b < v
+        more r v h q o (inl k) = more-before r v (omega (arith, q)) o
+        more r v h q o (inr k) = alone r v k h o
+
+        go : Won f alike n (sender p b) → Won f g n (sender p b)
+        go (some-one below its low) = some-one below its (λ r v h q o. inl (inl (more r v h q o (le-or-lt r p))))
+
+    -- up to itself it wins at any rate
     pub fewest-first : winner f g (p + 1) ≡ winnerOf b p
     unfolding winner against winnerOf
-    fewest-first = rw (add-one, le-leb b maxLabel fits) (go first-won (winner f g p) (won f g p))
+    fewest-first = rw (add-one, le-leb b maxLabel least-fits) (go first-won (winner f g p) (won f g p))
       where
         go : Won f alike n (sender p b) → (w : Winner) → Won f g p w → against g w p (f p) ≡ sender p b
         go (some-one below its low) nobody before = rw its
-        go (some-one below its low) (sender r u) (some-one h o best) = rw (its, lesser b (g p) u (g r) (less (low r u (omega arith) (λ q. omega arith) o)))
-          where
-            less : Before b 0 p u 0 r → b < u
-            less (inl (inl a)) = a
-            less (inl (inr a)) = absurd (omega arith)
-            less (inr a) = absurd (omega arith)
+        go (some-one below its low) (sender r u) (some-one h o best) = rw (its, lesser b (g p) u (g r) (more-before r u h o))
 
     module _ (s q : ℕ) (below : s < n) (w : winner f g s ≡ winnerOf b q) where
       -- a greater offer is passed
@@ -196,9 +261,9 @@ module _ (costs labels lists : List ℕ) (y : ℕ) where
         where
           go : (f s ≡ Nothing) ⊎ ((v : ℕ) × (f s ≡ Sum v) × (b + 1 ≤ v)) → winner f g (s + 1) ≡ winnerOf b q
           go (inl o) = skip f g s b q w o
-          go (inr (v, o, k)) = leave f g s b q w v o fits (greater v (g s) b (g q) (omega arith))
+          go (inr (v, o, k)) = leave f g s b q w v o least-fits (greater v (g s) b (g q) (omega arith))
 
-      same-sum : (v : ℕ) → offerBelow (b + 1) (f s) ≡ Sum v → (f s ≡ Sum b)
+      same-sum : (v : ℕ) → offerBelow (b + 1) (f s) ≡ Sum v → f s ≡ Sum b
       same-sum v h =
           let o = below-sum (b + 1) (f s) v h in
           let same : v ≡ b = omega (arith, o .1, none-less s v below (o .0)) in
@@ -206,28 +271,32 @@ module _ (costs labels lists : List ℕ) (y : ℕ) where
 
       -- of equal ones that of fewer ones is taken
       pub fewest-take : (v : ℕ) → offerBelow (b + 1) (f s) ≡ Sum v → g s < g q → winner f g (s + 1) ≡ winnerOf b s
-      fewest-take v h few = take f g s b q w b (same-sum v h) fits (λ _. equal b (g s) b (g q) refl ∙ lt-ltb (g s) (g q) few)
+      fewest-take v h few = take f g s b q w b (same-sum v h) least-fits (λ _. equal b (g s) b (g q) refl ∙ lt-ltb (g s) (g q) few)
 
       pub fewest-leave : (v : ℕ) → offerBelow (b + 1) (f s) ≡ Sum v → g q ≤ g s → winner f g (s + 1) ≡ winnerOf b q
-      fewest-leave v h few = leave f g s b q w b (same-sum v h) fits (equal b (g s) b (g q) refl ∙ le-ltb (g s) (g q) few)
+      fewest-leave v h few = leave f g s b q w b (same-sum v h) least-fits (equal b (g s) b (g q) refl ∙ le-ltb (g s) (g q) few)
 
-  -- once every sender is passed: after the first loop where there is no offer, after the second where there is one
-  module _ (s b p : ℕ) (all : s ≡ length costs) where
-    pub choice-none : winner f alike s ≡ winnerOf b p → maxLabel < b → choice (length costs) (costsOf costs) (reports labels lists) y ≡ none
-    unfolding choice rowBy winnerOf
-    choice-none w h =
-        go (subst₂ (Won f alike) all (w ∙ rw (lt-leb b maxLabel h)) (won f alike s)) (winner f g (length costs)) (won f g (length costs))
-      where
-        go : Won f alike (length costs) nobody → (v : Winner) → Won f g (length costs) v → rowBy y (reports labels lists) v ≡ none
-        go (no-one none-offers) nobody e = refl
-        go (no-one none-offers) (sender r u) (some-one below its low) = nothing-sum (f r) (none-offers r below) its
+  -- no offer after the first loop, and the row of the winner
+  pub choice-none : (b p : ℕ) → winner f alike (length costs) ≡ winnerOf b p → maxLabel < b →
+      choice (length costs) (costsOf costs) (reports labels lists) y ≡ none
+  unfolding choice rowBy winnerOf
+  choice-none b p w h =
+      go (subst (Won f alike (length costs)) (w ∙ rw (lt-leb b maxLabel h)) (won f alike (length costs))) (winner f g (length costs))
+      (won f g (length costs))
+    where
+      go : Won f alike (length costs) nobody → (v : Winner) → Won f g (length costs) v → rowBy y (reports labels lists) v ≡ none
+      go (no-one none-offers) nobody e = refl
+      go (no-one none-offers) (sender r u) (some-one below its low) = nothing-sum (f r) (none-offers r below) its
 
-    pub choice-some : winner f g s ≡ winnerOf b p → b ≤ maxLabel →
-        choice (length costs) (costsOf costs) (reports labels lists) y ≡ via b p (put (getD lists p 0) y)
-    unfolding choice rowBy winnerOf
-    choice-some w h =
-        let e : winner f g (length costs) ≡ sender p b = subst (λ k. winner f g k ≡ sender p b) all (w ∙ rw (le-leb b maxLabel h)) in
-        rw e (ap (λ l. via b p (put l y)) (list-of-words (getD labels p 0) (getD lists p 0)))
+  pub choice-some : (b p : ℕ) → winner f g (length costs) ≡ sender p b →
+      choice (length costs) (costsOf costs) (reports labels lists) y ≡ via b p (put (getD lists p 0) y)
+  unfolding choice rowBy
+  choice-some b p w = rw w (ap (λ l. via b p (put l y)) (list-of-words (getD labels p 0) (getD lists p 0)))
+
+-- what the words of a winner stand for
+pub winner-is : (b p : ℕ) → b ≤ maxLabel → winnerOf b p ≡ sender p b
+unfolding winnerOf
+winner-is b p h = rw (le-leb b maxLabel h)
 
 -- ---- an offer below a limit, from two words
 

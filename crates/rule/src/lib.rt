@@ -3,13 +3,14 @@
 // The crate `network` has document 01's definitions; the calls on a whole network are in `memory` and `routing`.
 // No public function has a precondition.
 ghost use mathlib.Core.Path.{_≡_};
+ghost use mathlib.Core.Bool.{_||_};
 ghost use Prim.Native.Nat.{_+_, _^_, _<_, _≤_};
 ghost use lib.Dec.{leb};
 ghost use lib.ListN.{length};
 ghost use Rattle.network.specs.Faults.{maxLabel, pairFault, listFault, rowFault, reportFault};
-ghost use Rattle.network.specs.Round.{offer, choice};
+ghost use Rattle.network.specs.Round.{offer, sender, winner, choice};
 ghost use Rattle.network.specs.Change.{gradeCost};
-ghost use Rattle.network.specs.Words.{reportOf, reports, costsOf, offerBelow, chosen, chooseOf, choiceMeans};
+ghost use Rattle.network.specs.Words.{reportOf, reports, costsOf, offersOf, onesOf, alike, offerBelow, chosen, chooseOf, choiceMeans};
 use network::Choice;
 use network::Offer;
 
@@ -111,6 +112,13 @@ pub fn grade_cost(grade: u32) -> u32
     GRADES[grade as usize]
 }
 
+// Whether either holds.
+pub fn or(a: bool, b: bool) -> bool
+    ensures { λ r. ⌜ r ≡ (a || b) ⌝ }
+{
+    a || b
+}
+
 fn wide(x: u32) -> u64
     ensures { λ r. ⌜ r ≡ x ⌝ }
 {
@@ -143,28 +151,22 @@ fn offer_below(label: u32, list: u32, cost: u32, receiver: u32, limit: u32) -> O
     Offer::Sum(sum as u32)
 }
 
-// The least offer of the senders, of equals that of fewest ones, and then the lowest sender's: first the least sum and the first sender that
-// offers it, then the later ones that do.
-fn least_offer(costs: &[u32], labels: &[u32], lists: &[u32], receiver: u32) -> Choice
+// Of the senders that offer the least sum, the first being given, the one of fewest ones, and then the lowest.
+fn fewest_ones(
+    costs: &[u32],
+    labels: &[u32],
+    lists: &[u32],
+    receiver: u32,
+    least: u32,
+    first: usize,
+) -> usize
     requires { ⌜ length (now costs) ≤ 32 ⌝ }
     requires { ⌜ length (now labels) ≡ length (now costs) ⌝ }
     requires { ⌜ length (now lists) ≡ length (now costs) ⌝ }
-    requires { ⌜ receiver < 32 ⌝ }
-    ensures { λ r. ⌜ choiceMeans r ≡ chosen (choice (length (now (costs .entry))) (costsOf (now (costs .entry))) (reports (now (labels .entry)) (now (lists .entry))) receiver) ⌝ }
+    requires { ⌜ winner (offersOf (now costs) (now labels) (now lists) receiver) alike (length (now costs)) ≡ sender first least ⌝ }
+    ensures { λ r. ⌜ winner (offersOf (now (costs .entry)) (now (labels .entry)) (now (lists .entry)) receiver) (onesOf (now (labels .entry)) (now (lists .entry))) (length (now (costs .entry))) ≡ sender r least ⌝ }
 {
     let n = costs.len();
-    let mut least = network::MAX_LABEL + 1;
-    let mut first = 0usize;
-    for s in 0..n {
-        let Offer::Sum(sum) = offer_below(labels[s], lists[s], costs[s], receiver, least) else {
-            continue;
-        };
-        least = sum;
-        first = s;
-    }
-    if network::MAX_LABEL < least {
-        return Choice::NoRoute;
-    }
     let mut from = first;
     let mut fewest = ancestors::count_nodes(lists[first]);
     for s in first + 1..n {
@@ -177,6 +179,36 @@ fn least_offer(costs: &[u32], labels: &[u32], lists: &[u32], receiver: u32) -> C
             from = s;
             fewest = nodes;
         }
+    }
+    from
+}
+
+// The least offer of the senders, of equals that of fewest ones, and then the lowest sender's. Ones are counted only if the least sum is met again.
+fn least_offer(costs: &[u32], labels: &[u32], lists: &[u32], receiver: u32) -> Choice
+    requires { ⌜ length (now costs) ≤ 32 ⌝ }
+    requires { ⌜ length (now labels) ≡ length (now costs) ⌝ }
+    requires { ⌜ length (now lists) ≡ length (now costs) ⌝ }
+    requires { ⌜ receiver < 32 ⌝ }
+    ensures { λ r. ⌜ choiceMeans r ≡ chosen (choice (length (now (costs .entry))) (costsOf (now (costs .entry))) (reports (now (labels .entry)) (now (lists .entry))) receiver) ⌝ }
+{
+    let n = costs.len();
+    let mut least = network::MAX_LABEL + 1;
+    let mut from = 0usize;
+    let mut again = false;
+    for s in 0..n {
+        again = or(again, total(labels[s], costs[s]) == wide(least));
+        let Offer::Sum(sum) = offer_below(labels[s], lists[s], costs[s], receiver, least) else {
+            continue;
+        };
+        least = sum;
+        from = s;
+        again = false;
+    }
+    if network::MAX_LABEL < least {
+        return Choice::NoRoute;
+    }
+    if again {
+        from = fewest_ones(costs, labels, lists, receiver, least, from);
     }
     Choice::Route {
         label: least,
