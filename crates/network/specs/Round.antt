@@ -1,4 +1,4 @@
--- Document 01, "A round": hearing, offers, the choice among them, and the round call with its refusals.
+-- Document 01, "A round", with request One's order of equal offers: hearing, offers, the choice among them, and the round call with its refusals.
 -- Assumes nothing.
 use mathlib.Core.Bool.{Bool, false, cond, not, _&&_, _||_}
 use mathlib.Core.List.{List}

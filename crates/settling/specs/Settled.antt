@@ -1,4 +1,5 @@
--- Document 01, "The settled row": walks, least costs, settled rows and real routes, over the present costs (0: no arc) and the origin.
+-- Document 01, "The settled row", with request One's predecessor: walks, least costs, settled rows and real routes, over the present costs (0: no
+-- arc) and the origin.
 -- Assumes nothing.
 use mathlib.Core.Path.{_≡_}
 use mathlib.Core.Bool.{false}
