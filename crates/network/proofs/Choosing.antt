@@ -1,19 +1,19 @@
 -- What a chosen row says of the reports it was made from, and what the reports say of it. Only this file and computed
 -- examples open `rowBy`, `listOf` and `choice`.
 -- Assumes nothing.
-use mathlib.Core.Path.{_≡_, refl, sym, ap, ap₂, _∙_}
+use mathlib.Core.Path.{_≡_, refl, ap, ap₂, _∙_}
 use mathlib.Core.Bool.{false}
-use mathlib.Core.Logic.{_⊎_, inl, inr, _≢_}
+use mathlib.Core.Logic.{_≢_}
 use Prim.Native.Nat.{ℕ, _+_, _<_, _≤_}
 use lib.Count.{ones}
 use Rattle.ancestors.specs.Ancestors.{has, put}
-use Rattle.ancestors.proofs.Cases.{eq-or-ne, clash}
+use Rattle.ancestors.proofs.Cases.{clash}
 use Rattle.network.specs.Faults.{maxLabel}
 use Rattle.network.specs.Network.{root, via, Report, told}
 use Rattle.network.specs.Round.{offer, listOf, onesIn, Winner, nobody, sender, winner, rowBy, choice}
 use Rattle.network.specs.declared.Offer.{Offer}
 use Rattle.network.specs.declared.Offer.the-variants.{Sum}
-use Rattle.network.proofs.Offers.{nothing-sum, made, makes, before-once, Won, no-one, some-one, won, winner-ext}
+use Rattle.network.proofs.Offers.{made, makes, Won, some-one, won, won-once, winner-ext}
 pub use Rattle.network.proofs.Offers.{Made, Before}
 
 module _ (n : ℕ) (cost : ℕ → ℕ) (held : ℕ → Report) (y : ℕ) where
@@ -49,22 +49,6 @@ module _ (n : ℕ) (cost : ℕ → ℕ) (held : ℕ → Report) (y : ℕ) where
   no-root-by nobody l e = clash cc
   no-root-by (sender s u) l e = clash cc
 
-  wins-by : (w : Winner) → Won offered-by ones-by n w → (s e l : ℕ) → s < n → held s ≡ told e l → offered-by s ≡ Sum (e + cost s) →
-      ((r v : ℕ) → r < n → r ≢ s → (m : Made y (cost r) (held r) v) → Before (e + cost s) (ones l) s v (ones (m .list)) r) → rowBy y held w ≡ via (e + cost s) s (put l y)
-  unfolding rowBy listOf
-  wins-by nobody (no-one k) s e l b h q best = nothing-sum (offered-by s) (k s b) q
-  wins-by (sender r u) (some-one below its low) s e l b h q best = go (eq-or-ne r s)
-    where
-      go : (r ≡ s) ⊎ (r ≢ s) → via u r (put (listOf (held r)) y) ≡ via (e + cost s) s (put l y)
-      go (inl k) =
-          let its′ : offered-by s ≡ Sum u = rw k at its in
-          let same : u ≡ e + cost s = cc in
-          rw (k, same, h)
-      go (inr k) =
-          let m = made y (cost r) (held r) u its in
-          let after : Before u (ones (m .list)) r (e + cost s) (ones l) s = rw (m .is, h) at (low s (e + cost s) b (λ j. k (sym j)) q) in
-          absurd (before-once (best r u below k m) after)
-
   -- a chosen row with a route comes from the report of its predecessor
   pub came : (d p l : ℕ) → choice n cost held y ≡ via d p l → Came d p l
   unfolding choice
@@ -79,9 +63,17 @@ module _ (n : ℕ) (cost : ℕ → ℕ) (held : ℕ → Report) (y : ℕ) where
   pub wins : (s e l : ℕ) → s < n → held s ≡ told e l → has l y ≡ false → e + cost s ≤ maxLabel →
       ((r v : ℕ) → r < n → r ≢ s → (m : Made y (cost r) (held r) v) → Before (e + cost s) (ones l) s v (ones (m .list)) r) →
       choice n cost held y ≡ via (e + cost s) s (put l y)
-  unfolding choice
+  unfolding choice rowBy listOf
   wins s e l b h apart fits best =
-      wins-by (winner offered-by ones-by n) (won offered-by ones-by n) s e l b h (rw h (makes y (cost s) e l apart fits)) best
+      rw (won-once offered-by ones-by n (winner offered-by ones-by n) (sender s (e + cost s)) (won offered-by ones-by n) (some-one b its before), h)
+    where
+      its : offered-by s ≡ Sum (e + cost s)
+      its = rw h (makes y (cost s) e l apart fits)
+
+      before : (r v : ℕ) → r < n → r ≢ s → offered-by r ≡ Sum v → Before (e + cost s) (ones-by s) s v (ones-by r) r
+      before r v c ne o =
+          let m = made y (cost r) (held r) v o in
+          rw (h, m .is) (best r v c ne m)
 
 rowBy-ext : (y : ℕ) (held held′ : ℕ → Report) (n : ℕ) (f : ℕ → Offer) (c : ℕ → ℕ) (w : Winner) → Won f c n w → ((s : ℕ) → s < n → held s ≡ held′ s) →
     rowBy y held w ≡ rowBy y held′ w

@@ -1,6 +1,6 @@
 -- What an offer says of its report, and who wins among offers. Only this file and computed examples open `offer`, `goesBefore`, `against` and `winner`.
 -- Assumes nothing.
-use mathlib.Core.Path.{_≡_, refl, sym, ap₂, _∙_}
+use mathlib.Core.Path.{_≡_, refl, sym, ap₂, subst, _∙_}
 use mathlib.Core.Bool.{true, false, cond, _&&_}
 use mathlib.Core.Logic.{_⊎_, inl, inr, _≢_}
 use Prim.Native.Nat.{ℕ, zero, suc, _+_, _<_, _≤_}
@@ -158,6 +158,24 @@ module _ (f : ℕ → Offer) (c : ℕ → ℕ) where
   unfolding winner
   won zero = no-one (λ r b. absurd (omega arith))
   won (suc n) = won-step n (winner f c n) (won n) (f n) refl
+
+  -- at most one wins
+  pub won-once : (n : ℕ) (v w : Winner) → Won f c n v → Won f c n w → v ≡ w
+  won-once n nobody nobody a b = refl
+  won-once n nobody (sender s u) (no-one none) (some-one below its low) = nothing-sum (f s) (none s below) its
+  won-once n (sender s u) nobody (some-one below its low) (no-one none) = nothing-sum (f s) (none s below) its
+  won-once n (sender s u) (sender r v) (some-one below its low) (some-one below′ its′ low′) = go (eq-or-ne s r)
+    where
+      go : (s ≡ r) ⊎ (s ≢ r) → sender s u ≡ sender r v
+      go (inl e) = rw (e, same-sum s r v u e its′ its)
+      go (inr e) = absurd (before-once (low r v below′ (λ q. e (sym q)) its′) (low′ s u below e its))
+
+  -- who wins is among the n
+  pub won-below : (n s u : ℕ) → winner f c n ≡ sender s u → s < n
+  won-below n s u e = go (subst (Won f c n) e (won n))
+    where
+      go : Won f c n (sender s u) → s < n
+      go (some-one below its low) = below
 
 -- the winner depends on the offers and ones of the senders below n alone
 against-ext : (c d : ℕ → ℕ) (n k : ℕ) (w : Winner) (o : Offer) (f : ℕ → Offer) → Won f c n w → c k ≡ d k → ((s : ℕ) → s < n → c s ≡ d s) →

@@ -16,20 +16,21 @@ use Rattle.ancestors.specs.Ancestors.{has, put, count}
 use Rattle.ancestors.proofs.Cases.{le-or-lt, eq-or-ne, bool-cases, clash}
 use Rattle.ancestors.proofs.Laws.{ones-count}
 use Rattle.network.specs.Faults.{maxLabel}
-use Rattle.network.specs.Network.{none, via, Report, empty, told}
+use Rattle.network.specs.Network.{none, via, empty, told}
 use Rattle.network.specs.Round.{offer, listOf, goesBefore, Winner, nobody, sender, against, winner, rowBy, choice}
 use Rattle.network.specs.Words.{reportOf, reports, costsOf, offersOf, onesOf, alike, offerBelow}
-use Rattle.network.proofs.Offers.{nothing-sum, Before, before-once, Won, no-one, some-one, won}
+use Rattle.network.proofs.Offers.{nothing-sum, made, Before, Won, no-one, some-one, won, won-once}
 use Rattle.network.specs.declared.Offer.{Offer}
 use Rattle.network.specs.declared.Offer.the-variants.{Nothing, Sum}
 
+-- the winner by its sum b, which is above the largest label where there is none, and its sender p
 unfoldable pub winnerOf : ℕ → ℕ → Winner
 winnerOf b p = cond (leb b maxLabel) (sender p b) nobody
 
 -- ---- an offer below a limit
 
 -- what an answer of nothing and one of a sum say of the offer
-pub below-nothing : (m : ℕ) (o : Offer) → offerBelow m o ≡ Nothing → (o ≡ Nothing) ⊎ ((v : ℕ) × (o ≡ Sum v) × (m ≤ v))
+below-nothing : (m : ℕ) (o : Offer) → offerBelow m o ≡ Nothing → (o ≡ Nothing) ⊎ ((v : ℕ) × (o ≡ Sum v) × (m ≤ v))
 unfolding offerBelow
 below-nothing m Nothing e = inl refl
 below-nothing m (Sum v) e = go (bool-cases (ltb v m))
@@ -38,7 +39,7 @@ below-nothing m (Sum v) e = go (bool-cases (ltb v m))
     go (inl t) = let q : Sum v ≡ Nothing = rw t at e in clash cc
     go (inr t) = inr (v, refl, ltb-false v m t)
 
-pub below-sum : (m : ℕ) (o : Offer) (v : ℕ) → offerBelow m o ≡ Sum v → (o ≡ Sum v) × (v < m)
+below-sum : (m : ℕ) (o : Offer) (v : ℕ) → offerBelow m o ≡ Sum v → (o ≡ Sum v) × (v < m)
 unfolding offerBelow
 below-sum m Nothing v e = clash cc
 below-sum m (Sum u) v e = go (bool-cases (ltb u m))
@@ -52,6 +53,7 @@ below-sum m (Sum u) v e = go (bool-cases (ltb u m))
 
 -- ---- one sender more
 
+-- the winner among the senders below s and s itself, by its offer
 module _ (f : ℕ → Offer) (c : ℕ → ℕ) (s b p : ℕ) (e : winner f c s ≡ winnerOf b p) where
   skip : f s ≡ Nothing → winner f c (s + 1) ≡ winnerOf b p
   unfolding winner against
@@ -83,18 +85,6 @@ module _ (v i u j : ℕ) where
   unfolding goesBefore
   equal e = rw (le-ltb v u (omega arith), eq-eqb v u e)
 
--- an offer is at most the largest label
-pub sum-small : (y c : ℕ) (h : Report) (v : ℕ) → offer y c h ≡ Sum v → v ≤ maxLabel
-unfolding offer
-sum-small y c empty v e = clash cc
-sum-small y c (told d l) v e = go (has l y) (bool-cases (ltb maxLabel (d + c))) e
-  where
-    go : (a : Bool) → (ltb maxLabel (d + c) ≡ true) ⊎ (ltb maxLabel (d + c) ≡ false) → cond (a || ltb maxLabel (d + c)) Nothing
-        (Sum (d + c)) ≡ Sum v → v ≤ maxLabel
-    go true t q = clash cc
-    go false (inl t) q = let r : Nothing ≡ Sum v = rw t at q in clash cc
-    go false (inr t) q = let r : Sum (d + c) ≡ Sum v = rw t at q in let w : d + c ≡ v = cc in omega (arith, ltb-false maxLabel (d + c) t)
-
 -- the list of a report in two words
 list-of-words : (d l : ℕ) → listOf (reportOf d l) ≡ l
 unfolding reportOf listOf
@@ -111,37 +101,14 @@ ones-of-nodes labels lists s k fits e =
 
 -- an offer of two words is label plus cost
 sum-is : (y c d l v : ℕ) → offer y c (reportOf d l) ≡ Sum v → v ≡ d + c
-unfolding reportOf offer
-sum-is y c d l v e = go (eq-or-ne l 0) e
+unfolding reportOf
+sum-is y c d l v o =
+    let m = made y c (reportOf d l) v o in
+    omega (arith, m .total, go (eq-or-ne l 0) (m .label) (m .list) (m .is))
   where
-    told-sum : (t : Bool) → cond t Nothing (Sum (d + c)) ≡ Sum v → v ≡ d + c
-    told-sum true q = clash cc
-    told-sum false q = cc
-
-    go : (l ≡ 0) ⊎ (l ≢ 0) → offer y c (cond (eqb l 0) empty (told d l)) ≡ Sum v → v ≡ d + c
-    go (inl k) q = let n : Nothing ≡ Sum v = rw (eq-eqb l 0 k) at q in clash cc
-    go (inr k) q = told-sum (has l y || ltb maxLabel (d + c)) (rw (ne-eqb l 0 k) at q)
-
--- ---- who won
-
-module _ (f : ℕ → Offer) (c : ℕ → ℕ) (n : ℕ) where
-  -- at most one
-  won-once : (v w : Winner) → Won f c n v → Won f c n w → v ≡ w
-  won-once nobody nobody a b = refl
-  won-once nobody (sender s u) (no-one none-offer) (some-one below its low) = nothing-sum (f s) (none-offer s below) its
-  won-once (sender s u) nobody (some-one below its low) (no-one none-offer) = nothing-sum (f s) (none-offer s below) its
-  won-once (sender s u) (sender r v) (some-one below its low) (some-one below′ its′ low′) = go (eq-or-ne s r)
-    where
-      go : (s ≡ r) ⊎ (s ≢ r) → sender s u ≡ sender r v
-      go (inl e) = let t : f r ≡ Sum u = rw e at its in let same : u ≡ v = cc in rw (e, same)
-      go (inr e) = absurd (before-once (low r v below′ (λ q. e (sym q)) its′) (low′ s u below e its))
-
-  -- a sender among the n
-  pub won-below : (s u : ℕ) → winner f c n ≡ sender s u → s < n
-  won-below s u e = go (subst (Won f c n) e (won f c n))
-    where
-      go : Won f c n (sender s u) → s < n
-      go (some-one below its low) = below
+    go : (l ≡ 0) ⊎ (l ≢ 0) → (e k : ℕ) → cond (eqb l 0) empty (told d l) ≡ told e k → d ≡ e
+    go (inl q) e k h = let n : empty ≡ told e k = rw (eq-eqb l 0 q) at h in clash cc
+    go (inr q) e k h = let t : told d l ≡ told e k = rw (ne-eqb l 0 q) at h in cc
 
 -- ---- the two loops
 
@@ -153,7 +120,7 @@ module _ (costs labels lists : List ℕ) (y : ℕ) where
   g = onesOf labels lists
 
   small : (s v : ℕ) → f s ≡ Sum v → v ≤ maxLabel
-  small s v o = sum-small y (costsOf costs s) (reports labels lists s) v o
+  small s v o = made y (costsOf costs s) (reports labels lists s) v o .fits
 
   -- no sender after p and before s offers b or less
   abbrev pub Alone : ℕ → ℕ → ℕ → Type 0

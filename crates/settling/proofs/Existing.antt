@@ -1,14 +1,14 @@
 -- Where a walk leads there is a least cost and a settled row: walks are decided by recursion on their arcs.
 -- Assumes nothing.
-use mathlib.Core.Path.{_≡_, refl, sym, subst}
+use mathlib.Core.Path.{_≡_, sym, subst}
 use mathlib.Core.Logic.{_⊎_, inl, inr, _≢_}
 use Prim.Native.Nat.{ℕ, zero, suc, _+_, _-_, _<_, _≤_}
 use native.Mathlib.Omega.{arith}
 use native.Mathlib.Decide.{decLe, decLt, ℕ-discrete}
 use Rattle.ancestors.specs.Ancestors.{put, own}
-use Rattle.ancestors.proofs.Cases.{eq-or-ne, any-below, first}
+use Rattle.ancestors.proofs.Cases.{any-below, first}
 use Rattle.network.specs.Network.{Row, root, via}
-use Rattle.settling.specs.Settled.{Walk, here, along, Least, Tight, Predecessor, Settled}
+use Rattle.settling.specs.Settled.{Walk, here, along, Least, Predecessor, Settled}
 use Rattle.settling.proofs.Routes.{ArcEnds, least-part, tight-part, Unmoved, Ended, walk-end, walk-arcs}
 use Rattle.settling.proofs.Unique.{least-once}
 use Rattle.settling.proofs.SettledBy.{SettledBy, at-start, next, by-relay, by-settled}

@@ -2,7 +2,7 @@
 -- Assumes nothing.
 use mathlib.Core.Path.{_≡_, sym, subst, _∙_}
 use mathlib.Core.Logic.{_⊎_, inl, inr, _≢_}
-use Prim.Native.Nat.{ℕ, suc, _+_, _*_, _-_, _<_, _≤_}
+use Prim.Native.Nat.{ℕ, suc, _*_, _-_, _<_, _≤_}
 use native.Mathlib.Omega.{arith}
 use Rattle.ancestors.specs.Ancestors.{put, own}
 use Rattle.ancestors.proofs.Cases.{eq-or-ne}

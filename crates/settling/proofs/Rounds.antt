@@ -8,7 +8,7 @@ use native.Mathlib.Omega.{arith}
 use Rattle.ancestors.specs.Ancestors.{has, own}
 use Rattle.ancestors.proofs.Cases.{eq-or-ne, bool-cases, never}
 use Rattle.network.specs.Faults.{maxCost, maxLabel}
-use Rattle.network.specs.Network.{root, via, told, Net, Within}
+use Rattle.network.specs.Network.{root, told, Net, Within}
 use Rattle.network.specs.Round.{Marks, report, choice}
 use Rattle.network.proofs.Effects.{Stays, nodes-stay, origin-stay, RoundEffect}
 use Rattle.network.proofs.Limits.{within-size, within-arc, within-report}

@@ -9,7 +9,7 @@ use Rattle.ancestors.specs.Ancestors.{has, put, own, hops}
 use Rattle.ancestors.proofs.Cases.{clash}
 use Rattle.network.specs.Network.{Row, root, via, told}
 use Rattle.network.specs.Round.{report}
-use Rattle.settling.specs.Settled.{Walk, here, Route, start, onward, Least, Predecessor, Ancestors, at-origin, behind, Settled, fixed, unreached, reached, FewestArcs, HopsFewest}
+use Rattle.settling.specs.Settled.{Walk, here, Route, start, onward, Least, Predecessor, Ancestors, at-origin, behind, Settled, fixed, unreached, reached, HopsFewest}
 use Rattle.network.proofs.Reports.{root-told, via-told, told-row}
 use Rattle.settling.proofs.Unique.{least-once}
 use Rattle.settling.proofs.Routes.{route-walk, route-hops, route-apart, tight-part, Unmoved, Ended, walk-end}

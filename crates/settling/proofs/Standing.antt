@@ -2,7 +2,6 @@
 -- k W rounds later.
 -- Assumes nothing.
 use mathlib.Core.Path.{_≡_, sym, ap, subst, _∙_}
-use mathlib.Core.Bool.{false}
 use mathlib.Core.Logic.{_⊎_, inl, inr, _≢_}
 use Prim.Native.Nat.{ℕ, suc, _+_, _*_, _-_, _<_, _≤_}
 use native.Mathlib.Omega.{arith}
@@ -17,7 +16,7 @@ use Rattle.settling.specs.Settled.{Walk, along, Least, Tight, Predecesso
 use Rattle.settling.proofs.Routes.{route-short, route-walk, route-ones, tight-part}
 use Rattle.settling.proofs.Unique.{least-once}
 use Rattle.settling.proofs.SettledBy.{SettledBy, at-start, next, by-least, by-apart, by-route, by-fewest, by-report}
-use Rattle.settling.proofs.Run.{Run, Offered}
+use Rattle.settling.proofs.Run.{Run}
 use Rattle.settling.proofs.Sound.{Sound, sound-offer}
 
 module _ (cost : ℕ → ℕ → ℕ) (origin : ℕ) where

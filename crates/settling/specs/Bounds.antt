@@ -6,7 +6,7 @@ use mathlib.Core.List.{List}
 use Prim.Native.Nat.{ℕ, _+_, _*_, _-_, _≤_}
 use lib.Dec.{eqb, ltb}
 use Rattle.network.specs.Network.{Net, Within}
-use Rattle.settling.specs.Calls.{Call, AllSettled, AllReal, Supposed, atEnd, roundsHeard}
+use Rattle.settling.specs.Calls.{Call, AllSettled, Supposed, atEnd, roundsHeard}
 
 -- labels are real from (n - 1) W rounds on
 abbrev pub realFrom : ℕ → ℕ → ℕ

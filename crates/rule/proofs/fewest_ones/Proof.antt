@@ -9,8 +9,9 @@ use mathlib.Core.Logic.{⊎-elim}
 use lib.ListN.{length}
 use denote.Ref.{now}
 use Rattle.network.specs.Round.{sender, winner}
-use Rattle.network.specs.Words.{offersOf, onesOf, alike}
-use Rattle.rule.proofs.Least.{ones-of-nodes, won-below, winnerOf, winner-is, least-fits, fewest-first, fewest-pass, fewest-take, fewest-leave}
+use Rattle.network.specs.Words.{offersOf, onesOf}
+use Rattle.network.proofs.Offers.{won-below}
+use Rattle.rule.proofs.Least.{ones-of-nodes, winnerOf, winner-is, least-fits, fewest-first, fewest-pass, fewest-take, fewest-leave}
 use Rattle.rule.proofs.fewest_ones.Statement.{statement}
 use Rattle.rule.proofs.fewest_ones.Tie as tie
 

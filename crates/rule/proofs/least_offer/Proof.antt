@@ -3,7 +3,7 @@
 -- Assumes nothing.
 use borrow.Author.Needs.{needs}
 use native.Mathlib.Omega.{arith}
-use Prim.Native.Nat.{_+_, _-_, _<_, _≤_}
+use Prim.Native.Nat.{_+_, _-_, _≤_}
 use mathlib.Core.Path.{_≡_, sym, ap, subst, _∙_}
 use mathlib.Core.Bool.{false}
 use borrow.Author.Tests.{lt-ltb, eqb-false}
@@ -16,7 +16,8 @@ use Rattle.network.specs.Words.{offersOf, onesOf, alike, chosen, choiceMeans}
 use Rattle.network.specs.Network.{via}
 use Rattle.ancestors.specs.Ancestors.{put}
 use Rattle.ancestors.proofs.Cases.{or-neither}
-use Rattle.rule.proofs.Least.{won-below, winnerOf, winner-is, Alone, first-none, first-pass, first-take, alone-pass, alone-wins, choice-none, choice-some}
+use Rattle.network.proofs.Offers.{won-below}
+use Rattle.rule.proofs.Least.{winnerOf, winner-is, Alone, first-none, first-pass, first-take, alone-pass, alone-wins, choice-none, choice-some}
 use Rattle.rule.proofs.least_offer.Statement.{statement}
 use Rattle.rule.proofs.least_offer.Tie as tie
 
