@@ -55,35 +55,35 @@ below-sum m (Sum u) v e = go (bool-cases (ltb u m))
 
 -- the winner among the senders below s and s itself, by its offer
 module _ (f : ℕ → Offer) (c : ℕ → ℕ) (s b p : ℕ) (e : winner f c s ≡ winnerOf b p) where
-  skip : f s ≡ Nothing → winner f c (s + 1) ≡ winnerOf b p
+  winner-skips : f s ≡ Nothing → winner f c (s + 1) ≡ winnerOf b p
   unfolding winner against
-  skip o = rw (add-one, o) e
+  winner-skips o = rw (add-one, o) e
 
-  take : (v : ℕ) → f s ≡ Sum v → v ≤ maxLabel → (b ≤ maxLabel → goesBefore v (c s) b (c p) ≡ true) → winner f c (s + 1) ≡ winnerOf v s
+  winner-takes : (v : ℕ) → f s ≡ Sum v → v ≤ maxLabel → (b ≤ maxLabel → goesBefore v (c s) b (c p) ≡ true) → winner f c (s + 1) ≡ winnerOf v s
   unfolding winner against winnerOf
-  take v o h t = rw (add-one, o, e, le-leb v maxLabel h) (go (le-or-lt b maxLabel))
+  winner-takes v o h t = rw (add-one, o, e, le-leb v maxLabel h) (go (le-or-lt b maxLabel))
     where
       go : (b ≤ maxLabel) ⊎ (maxLabel < b) → against c (cond (leb b maxLabel) (sender p b) nobody) s (Sum v) ≡ sender s v
       go (inl k) = rw (le-leb b maxLabel k, t k)
       go (inr k) = rw (lt-leb b maxLabel k)
 
-  leave : (v : ℕ) → f s ≡ Sum v → b ≤ maxLabel → goesBefore v (c s) b (c p) ≡ false → winner f c (s + 1) ≡ winnerOf b p
+  winner-leaves : (v : ℕ) → f s ≡ Sum v → b ≤ maxLabel → goesBefore v (c s) b (c p) ≡ false → winner f c (s + 1) ≡ winnerOf b p
   unfolding winner against winnerOf
-  leave v o k t = rw (add-one, o, e, le-leb b maxLabel k, t)
+  winner-leaves v o k t = rw (add-one, o, e, le-leb b maxLabel k, t)
 
 -- different sums decide, and else the ones
 module _ (v i u j : ℕ) where
-  lesser : v < u → goesBefore v i u j ≡ true
+  before-lesser : v < u → goesBefore v i u j ≡ true
   unfolding goesBefore
-  lesser h = rw (lt-ltb v u h)
+  before-lesser h = rw (lt-ltb v u h)
 
-  greater : u < v → goesBefore v i u j ≡ false
+  before-greater : u < v → goesBefore v i u j ≡ false
   unfolding goesBefore
-  greater h = rw (le-ltb v u (omega arith), ne-eqb v u (λ e. omega arith))
+  before-greater h = rw (le-ltb v u (omega arith), ne-eqb v u (λ e. omega arith))
 
-  equal : v ≡ u → goesBefore v i u j ≡ ltb i j
+  before-equal : v ≡ u → goesBefore v i u j ≡ ltb i j
   unfolding goesBefore
-  equal e = rw (le-ltb v u (omega arith), eq-eqb v u e)
+  before-equal e = rw (le-ltb v u (omega arith), eq-eqb v u e)
 
 -- the list of a report in two words
 list-of-words : (d l : ℕ) → listOf (reportOf d l) ≡ l
@@ -136,19 +136,19 @@ module _ (costs labels lists : List ℕ) (y : ℕ) where
     first-pass h = go (below-nothing b (f s) h)
       where
         go : (f s ≡ Nothing) ⊎ ((v : ℕ) × (f s ≡ Sum v) × (b ≤ v)) → winner f alike (s + 1) ≡ winnerOf b p
-        go (inl o) = skip f alike s b p e o
-        go (inr (v, o, k)) = leave f alike s b p e v o (omega (arith, small s v o)) (not-less (eq-or-ne v b))
+        go (inl o) = winner-skips f alike s b p e o
+        go (inr (v, o, k)) = winner-leaves f alike s b p e v o (omega (arith, small s v o)) (not-less (eq-or-ne v b))
           where
             not-less : (v ≡ b) ⊎ (v ≢ b) → goesBefore v 0 b 0 ≡ false
-            not-less (inl q) = equal v 0 b 0 q
-            not-less (inr q) = greater v 0 b 0 (omega (arith, q))
+            not-less (inl q) = before-equal v 0 b 0 q
+            not-less (inr q) = before-greater v 0 b 0 (omega (arith, q))
 
     -- and one below it is taken
     pub first-take : (v : ℕ) → offerBelow b (f s) ≡ Sum v → (winner f alike (s + 1) ≡ winnerOf v s) × (v ≤ maxLabel)
     first-take v h =
         let o = below-sum b (f s) v h in
         let k = small s v (o .0) in
-        (take f alike s b p e v (o .0) k (λ _. lesser v 0 b 0 (o .1)), k)
+        (winner-takes f alike s b p e v (o .0) k (λ _. before-lesser v 0 b 0 (o .1)), k)
 
   -- passed with another sum than b, it leaves p alone
   pub alone-pass : (s b p : ℕ) → Alone b p s → offerBelow b (f s) ≡ Nothing → getD labels s 0 + costsOf costs s ≢ b → Alone b p (s + 1)
@@ -219,7 +219,7 @@ module _ (costs labels lists : List ℕ) (y : ℕ) where
       where
         go : Won f alike n (sender p b) → (w : Winner) → Won f g p w → against g w p (f p) ≡ sender p b
         go (some-one below its low) nobody before = rw its
-        go (some-one below its low) (sender r u) (some-one h o best) = rw (its, lesser b (g p) u (g r) (more-before r u h o))
+        go (some-one below its low) (sender r u) (some-one h o best) = rw (its, before-lesser b (g p) u (g r) (more-before r u h o))
 
     module _ (s q : ℕ) (below : s < n) (w : winner f g s ≡ winnerOf b q) where
       -- a greater offer is passed
@@ -227,8 +227,8 @@ module _ (costs labels lists : List ℕ) (y : ℕ) where
       fewest-pass h = go (below-nothing (b + 1) (f s) h)
         where
           go : (f s ≡ Nothing) ⊎ ((v : ℕ) × (f s ≡ Sum v) × (b + 1 ≤ v)) → winner f g (s + 1) ≡ winnerOf b q
-          go (inl o) = skip f g s b q w o
-          go (inr (v, o, k)) = leave f g s b q w v o least-fits (greater v (g s) b (g q) (omega arith))
+          go (inl o) = winner-skips f g s b q w o
+          go (inr (v, o, k)) = winner-leaves f g s b q w v o least-fits (before-greater v (g s) b (g q) (omega arith))
 
       same-sum : (v : ℕ) → offerBelow (b + 1) (f s) ≡ Sum v → f s ≡ Sum b
       same-sum v h =
@@ -238,10 +238,10 @@ module _ (costs labels lists : List ℕ) (y : ℕ) where
 
       -- of equal ones that of fewer ones is taken
       pub fewest-take : (v : ℕ) → offerBelow (b + 1) (f s) ≡ Sum v → g s < g q → winner f g (s + 1) ≡ winnerOf b s
-      fewest-take v h few = take f g s b q w b (same-sum v h) least-fits (λ _. equal b (g s) b (g q) refl ∙ lt-ltb (g s) (g q) few)
+      fewest-take v h few = winner-takes f g s b q w b (same-sum v h) least-fits (λ _. before-equal b (g s) b (g q) refl ∙ lt-ltb (g s) (g q) few)
 
       pub fewest-leave : (v : ℕ) → offerBelow (b + 1) (f s) ≡ Sum v → g q ≤ g s → winner f g (s + 1) ≡ winnerOf b q
-      fewest-leave v h few = leave f g s b q w b (same-sum v h) least-fits (equal b (g s) b (g q) refl ∙ le-ltb (g s) (g q) few)
+      fewest-leave v h few = winner-leaves f g s b q w b (same-sum v h) least-fits (before-equal b (g s) b (g q) refl ∙ le-ltb (g s) (g q) few)
 
   -- no offer after the first loop, and the row of the winner
   pub choice-none : (b p : ℕ) → winner f alike (length costs) ≡ winnerOf b p → maxLabel < b →

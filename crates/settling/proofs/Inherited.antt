@@ -14,7 +14,7 @@ use Rattle.settling.proofs.Relays.{relays, relays-own, relays-put, rela
 use Rattle.settling.proofs.Run.{Run, Offered, sent, source, told-by}
 
 -- P of a node, a label and a list, from b rounds on
-module _ (run : Run) (P : ℕ → ℕ → ℕ → Type 0) (b : ℕ) (first : 1 ≤ b)
+module _ (run : Run) (P : ℕ → ℕ → ℕ → Type 0) (b : ℕ) (positive : 1 ≤ b)
     (by-origin : (t y d l : ℕ) → b ≤ t → t ≤ run .T → run .held t (run .origin) y ≡ told d l → P (run .origin) d l)
     (onwards : (t s y v : ℕ) → t ≤ run .T → (m : Offered run t s y v) → P s (m .label) (m .list) → P y v (put (m .list) y)) where
   open Run run using (n, origin, cost, W, T, row, held)
@@ -29,7 +29,7 @@ module _ (run : Run) (P : ℕ → ℕ → ℕ → Type 0) (b : ℕ) (first : 1 �
   made-row k claim t y d l a c below relay h = from (source run t y d (p .0) l early c below relay (p .1))
     where
       early : 1 ≤ t
-      early = omega (arith, first)
+      early = omega (arith, positive)
 
       p : (p : ℕ) × (row t y ≡ via d p l)
       p = told-by run t y d l early c below relay h
@@ -81,7 +81,7 @@ module _ (run : Run) (P : ℕ → ℕ → ℕ → Type 0) (b : ℕ) (first : 1 �
   -- and of every relay's row
   pub inherited-row : (t y d l : ℕ) → (n - 2) * W + b ≤ t → t ≤ T → y < n → y ≢ origin → report (row t y) ≡ told d l → P y d l
   inherited-row t y d l a c below relay h =
-      let early : 1 ≤ t = omega (arith, first) in
+      let early : 1 ≤ t = omega (arith, positive) in
       let p = told-by run t y d l early c below relay h in
       let x = source run t y d (p .0) l early c below relay (p .1) in
       let g = inherited-offer t (p .0) y d a c below relay (x .offered) in
