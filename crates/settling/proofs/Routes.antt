@@ -81,7 +81,7 @@ module _ (cost : ℕ → ℕ → ℕ) (origin : ℕ) where
     pub arcs-are : k ≡ suc arcs
     pub sum-is : d ≡ before + cost sender y
 
-  -- there are no others
+  -- a walk is one or the other
   pub walk-end : {y k d : ℕ} → Walk cost origin y k d → Unmoved y k d ⊎ Ended y k d
   walk-end here = inl (refl, refl, refl)
   walk-end (along {s = s} {k = k} {d = d} w arc) =
