@@ -1,3 +1,3 @@
--- What the leaf functions compute: bits not below n, and the winner as a loop keeps it.
+-- What the leaf functions compute: bits not below n, and the winner as two loops find it.
 mod Bits
 mod Least
