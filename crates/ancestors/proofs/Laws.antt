@@ -14,7 +14,7 @@ use lib.Bits.{bitOr, or-shr, or-step, or-block, or-zero-r, or-lt}
 use lib.Count.{ones, ones-step, ones-cat}
 use Rattle.ancestors.specs.Ancestors.{has, put, own, hops, one, count}
 use Rattle.ancestors.proofs.Cases.{le-or-lt, eq-or-ne, never, eqb-same}
-use Rattle.ancestors.proofs.Counting.{count-ext, count-more}
+use Rattle.ancestors.proofs.Counting.{count-ext}
 
 or-low : (x y : ℕ) → bitOr x y % 2 ≡ max (x % 2) (y % 2)
 or-low x y = omega (arith, or-step x y)
@@ -189,5 +189,4 @@ ones-listed l i h =
 pub ones-some : (k l : ℕ) → l < 2 ^ k → l ≢ 0 → 1 ≤ ones l
 ones-some k l h n =
     let b = bit-beyond 0 k l (omega (arith, n)) (subst (λ (x : ℕ). l < 2 ^ x) (omega arith) h) in
-    let m = count-more (λ _. false) (has l) (λ i e. never false e refl) (b .0) refl (b .3) k (omega (arith, b .2)) in
-    omega (arith, ones-count k l h)
+    omega (arith, ones-listed l (b .0) (b .3))

@@ -119,6 +119,7 @@ module _ (costs labels lists : List ℕ) (y : ℕ) where
   abbrev g : ℕ → ℕ
   g = onesOf labels lists
 
+  -- an offer is at most the largest label
   small : (s v : ℕ) → f s ≡ Sum v → v ≤ maxLabel
   small s v o = made y (costsOf costs s) (reports labels lists s) v o .fits
 
@@ -170,6 +171,7 @@ module _ (costs labels lists : List ℕ) (y : ℕ) where
     first-won : Won f alike n (sender p b)
     first-won = subst (Won f alike n) e (won f alike n)
 
+    -- the least sum is at most the largest label
     pub least-fits : b ≤ maxLabel
     least-fits = go first-won
       where
@@ -230,13 +232,14 @@ module _ (costs labels lists : List ℕ) (y : ℕ) where
           go (inl o) = winner-skips f g s b q w o
           go (inr (v, o, k)) = winner-leaves f g s b q w v o least-fits (before-greater v (g s) b (g q) (omega arith))
 
+      -- any other is an equal one
       same-sum : (v : ℕ) → offerBelow (b + 1) (f s) ≡ Sum v → f s ≡ Sum b
       same-sum v h =
           let o = below-sum (b + 1) (f s) v h in
           let same : v ≡ b = omega (arith, o .1, none-less s v below (o .0)) in
           rw (← same) (o .0)
 
-      -- of equal ones that of fewer ones is taken
+      -- of equal offers that of fewer ones is taken
       pub fewest-take : (v : ℕ) → offerBelow (b + 1) (f s) ≡ Sum v → g s < g q → winner f g (s + 1) ≡ winnerOf b s
       fewest-take v h few = winner-takes f g s b q w b (same-sum v h) least-fits (λ _. before-equal b (g s) b (g q) refl ∙ lt-ltb (g s) (g q) few)
 
@@ -267,7 +270,7 @@ winner-is b p h = rw (le-leb b maxLabel h)
 
 -- ---- an offer below a limit, from two words
 
--- case by case, where the limit is at most one more than the largest label
+-- case by case; with a limit of at most one more than the largest label a sum below it is an offer
 module _ (y c d l m : ℕ) where
   pub offer-empty : l ≡ 0 → Nothing ≡ offerBelow m (offer y c (reportOf d l))
   unfolding offer reportOf offerBelow

@@ -1,14 +1,18 @@
--- Laws of the bound from which rows are settled. Only this file and computed examples open `settledFrom`.
+-- Laws of the bounds: of the rounds from which rows are settled, and of what shows that a promise does not hold sooner. Only this file and computed
+-- examples open `settledFrom`.
 -- Assumes nothing.
 use mathlib.Core.Path.{_≡_}
 use mathlib.Core.Logic.{_≢_}
+use mathlib.Core.List.{List}
 use Prim.Native.Nat.{ℕ, suc, _+_, _*_, _-_, _≤_}
 use native.Mathlib.Omega.{arith}
 use native.Mathlib.Nat.{mul-le-mul-right}
 use lib.Dec.{eqb, ltb}
 use borrow.Author.Tests.{ltb-true, ltb-false, eqb-true, eqb-false}
 use Rattle.ancestors.proofs.Cases.{cond-by}
-use Rattle.settling.specs.Bounds.{settledFrom}
+use Rattle.network.specs.Network.{Net}
+use Rattle.settling.specs.Calls.{Call}
+use Rattle.settling.specs.Bounds.{settledFrom, TooFew, NoSooner}
 
 module _ (n W : ℕ) (positive : 1 ≤ W) where
   -- at least W, and at least (2n - 4) W + 1; at most 2 (n - 1) W
@@ -45,3 +49,9 @@ module _ (n W : ℕ) (positive : 1 ≤ W) where
 
       more : 2 ≤ n → suc (2 * n - 4) ≤ 2 * (n - 1)
       more two = omega arith
+
+-- one network with too few rounds is enough
+pub no-sooner-by : {bound : ℕ → ℕ → ℕ} {Promise : Net → Type 0} {x : Net} {before stretch : List Call} {W : ℕ} →
+    TooFew bound Promise x before stretch W → NoSooner bound Promise
+no-sooner-by {x = x} {before = before} {stretch = stretch} {W = W} few sooner =
+    few .fails (sooner x (few .within) before stretch W (few .supposed) (omega (arith, few .count)))

@@ -1,9 +1,9 @@
--- From tests that compute over a concrete list of calls to what demand 3 supposes of it.
+-- From tests that compute over a concrete list of calls to what demand 3 supposes of it, and to too few rounds.
 -- Assumes nothing.
 use mathlib.Core.Path.{_≡_, _∙_}
 use mathlib.Core.Bool.{Bool, true, false, not, _&&_, and-comm}
 use mathlib.Core.List.{List, [], _∷_}
-use Prim.Native.Nat.{ℕ, _+_, _<_, _≤_}
+use Prim.Native.Nat.{ℕ, _+_, _-_, _<_, _≤_}
 use native.Mathlib.Omega.{arith}
 use lib.Dec.{ltb, leb}
 use lib.ListN.{length, getD}
@@ -13,7 +13,8 @@ use Rattle.network.specs.Network.{Net, Within}
 use Rattle.network.specs.Round.{Marks, some}
 use Rattle.network.proofs.Limits.{within-arc}
 use Rattle.network.proofs.Marking.{some-not, some-find}
-use Rattle.settling.specs.Calls.{Call, called, accepted, alters, after, Stretch, end, step, rounds, unmarked, HeardWithin, Supposed}
+use Rattle.settling.specs.Calls.{Call, called, accepted, alters, after, Stretch, end, step, rounds, unmarked, HeardWithin, Supposed, atEnd, roundsHeard}
+use Rattle.settling.specs.Bounds.{TooFew}
 
 -- no change or grade call is accepted
 unfoldable pub still : Net → List Call → Bool
@@ -62,3 +63,11 @@ supposed-by x before stretch W positive w a b =
       heard = heard-by (after x before .nodes) W (after x before .cost) (rounds (after x before) stretch) positive
           (λ s r arc. let e = within-arc (after x before) w s r arc in (e .0, e .1)) b;
     }
+
+-- and with one round less than a bound, after which a promise does not hold, too few
+pub too-few-by : (bound : ℕ → ℕ → ℕ) (Promise : Net → Type 0) (x : Net) (stretch : List Call) (W : ℕ) → 1 ≤ W → Within x →
+    still x stretch ≡ true → missed (x .nodes) W (x .cost) (rounds x stretch) ≡ false → roundsHeard x [] stretch ≡ bound (x .nodes) W - 1 →
+    (Promise (atEnd x [] stretch) → ⊥) → TooFew bound Promise x [] stretch W
+unfolding after
+too-few-by bound Promise x stretch W positive within a b count fails =
+    record { within = within; supposed = supposed-by x [] stretch W positive within a b; count = count; fails = fails }

@@ -19,7 +19,8 @@ use Rattle.settling.specs.Settled.{Walk, here, along, Settled}
 use Rattle.settling.specs.Calls.{Call, round, fullRound, called, accepted, after, marksThen, rounds, AllSettled, atEnd, roundsHeard}
 use Rattle.settling.specs.Bounds.{settledFrom, TooFew, NoSooner}
 use Rattle.settling.proofs.Unique.{settled-none}
-use Rattle.settling.proofs.Computed.{still, unheard, missed, supposed-by}
+use Rattle.settling.proofs.Bounds.{no-sooner-by}
+use Rattle.settling.proofs.Computed.{still, unheard, missed, too-few-by}
 
 -- a row without a route where a walk leads is not settled
 unsettled : (x : Net) (y k d : ℕ) → y < x .nodes → x .row y ≡ none → Walk (x .cost) (x .origin) y k d → AllSettled x → ⊥
@@ -97,14 +98,9 @@ pair-facts =
 
 -- such facts are too few rounds
 too-few : (x : Net) (stretch : List Call) (y k d : ℕ) → Within x → Facts x stretch y k d → TooFew settledFrom AllSettled x [] stretch 2
-unfolding after
 too-few x stretch y k d within f =
-    record {
-      within = within;
-      supposed = supposed-by x [] stretch 2 (omega arith) within (f .still) (f .heard);
-      count = f .count;
-      fails = unsettled (atEnd x [] stretch) y k d (f .below) (f .no-route) (f .walk);
-    }
+    too-few-by settledFrom AllSettled x stretch 2 (omega arith) within (f .still) (f .heard) (f .count)
+    (unsettled (atEnd x [] stretch) y k d (f .below) (f .no-route) (f .walk))
 
 -- with four nodes 8 rounds are too few, with two nodes 1
 pub exact : TooFew settledFrom AllSettled falseChain [] chainStretch 2
@@ -114,4 +110,4 @@ pub exact-pair : TooFew settledFrom AllSettled pairNet [] pairStretch 2
 exact-pair = too-few pairNet pairStretch 1 1 1 pair-within pair-facts
 
 pub settled-no-sooner : NoSooner settledFrom AllSettled
-settled-no-sooner sooner = exact .fails (sooner falseChain (exact .within) [] chainStretch 2 (exact .supposed) (omega (arith, exact .count)))
+settled-no-sooner = no-sooner-by exact

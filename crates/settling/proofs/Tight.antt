@@ -22,7 +22,8 @@ use Rattle.settling.specs.Calls.{Call, round, called, accepted, after, m
 use Rattle.settling.specs.Bounds.{realFrom, TooFew, NoSooner}
 use Rattle.settling.proofs.Routes.{ArcEnds, route-cost, route-short}
 use Rattle.settling.proofs.CallLaws.{after-within}
-use Rattle.settling.proofs.Computed.{still, unheard, missed, supposed-by}
+use Rattle.settling.proofs.Bounds.{no-sooner-by}
+use Rattle.settling.proofs.Computed.{still, unheard, missed, too-few-by}
 
 -- where every arc costs at most c, no real route costs more than (n - 1) c
 pub too-dear : (n c : ℕ) (cost : ℕ → ℕ → ℕ) (origin y d p l : ℕ) → ArcEnds n origin cost → ((s r : ℕ) → cost s r ≤ c) → (n - 1) * c < d →
@@ -93,14 +94,7 @@ unreal-end all =
         }
 
 pub tight : TooFew realFrom AllReal chainNet [] stretch 2
-unfolding after
-tight =
-    record {
-      within = field-within;
-      supposed = supposed-by chainNet [] stretch 2 (omega arith) field-within (facts .still) (facts .heard);
-      count = facts .count;
-      fails = unreal-end;
-    }
+tight = too-few-by realFrom AllReal chainNet stretch 2 (omega arith) field-within (facts .still) (facts .heard) (facts .count) unreal-end
 
 pub no-sooner : NoSooner realFrom AllReal
-no-sooner sooner = tight .fails (sooner chainNet (tight .within) [] stretch 2 (tight .supposed) (omega (arith, tight .count)))
+no-sooner = no-sooner-by tight
