@@ -163,7 +163,7 @@ fn set_arc(net: &mut [u32], sender: u32, receiver: u32, cost: u32)
 pub fn change(net: &mut Network, sender: u32, receiver: u32, cost: u32) -> u8
     ensures { λ k. ⌜ Leaves (changeOf (view (now (net .entry))) sender receiver cost) k (now (net .entry)) (now (net .exit)) ⌝ }
 {
-    if rule::pair_fault(nodes(net), sender, receiver) {
+    if faults::pair_fault(nodes(net), sender, receiver) {
         return 3;
     }
     if network::MAX_COST < cost {
@@ -177,13 +177,13 @@ pub fn change(net: &mut Network, sender: u32, receiver: u32, cost: u32) -> u8
 pub fn grade(net: &mut Network, sender: u32, receiver: u32, grade: u32) -> u8
     ensures { λ k. ⌜ Leaves (gradeOf (view (now (net .entry))) sender receiver grade) k (now (net .entry)) (now (net .exit)) ⌝ }
 {
-    if rule::pair_fault(nodes(net), sender, receiver) {
+    if faults::pair_fault(nodes(net), sender, receiver) {
         return 3;
     }
     if network::MAX_GRADE < grade {
         return 3;
     }
-    set_arc(net, sender, receiver, rule::grade_cost(grade));
+    set_arc(net, sender, receiver, faults::grade_cost(grade));
     0
 }
 
@@ -232,7 +232,7 @@ fn cost_word(net: &[u32], sender: u32, receiver: u32) -> u32
 pub fn pair_cost(net: &Network, sender: u32, receiver: u32) -> CostRead
     ensures { λ r. ⌜ costMeans r ≡ readCost (wide (now (net .entry))) sender receiver ⌝ }
 {
-    if rule::pair_fault(network::MAX_NODES, sender, receiver) {
+    if faults::pair_fault(network::MAX_NODES, sender, receiver) {
         return CostRead { number: 3, cost: 0 };
     }
     CostRead {
@@ -245,7 +245,7 @@ pub fn pair_cost(net: &Network, sender: u32, receiver: u32) -> CostRead
 pub fn pair_held(net: &Network, sender: u32, receiver: u32) -> HeldRead
     ensures { λ r. ⌜ heldMeans r ≡ readHeld (wide (now (net .entry))) sender receiver ⌝ }
 {
-    if rule::pair_fault(network::MAX_NODES, sender, receiver) {
+    if faults::pair_fault(network::MAX_NODES, sender, receiver) {
         return HeldRead::Refused;
     }
     let at = receiver as usize * 32 + sender as usize;
@@ -263,7 +263,7 @@ pub fn pair_held(net: &Network, sender: u32, receiver: u32) -> HeldRead
 pub fn arc_cost(net: &Network, sender: u32, receiver: u32) -> CostRead
     ensures { λ r. ⌜ costMeans r ≡ readCost (view (now (net .entry))) sender receiver ⌝ }
 {
-    if rule::pair_fault(nodes(net), sender, receiver) {
+    if faults::pair_fault(nodes(net), sender, receiver) {
         return CostRead { number: 3, cost: 0 };
     }
     pair_cost(net, sender, receiver)
@@ -273,7 +273,7 @@ pub fn arc_cost(net: &Network, sender: u32, receiver: u32) -> CostRead
 pub fn held(net: &Network, sender: u32, receiver: u32) -> HeldRead
     ensures { λ r. ⌜ heldMeans r ≡ readHeld (view (now (net .entry))) sender receiver ⌝ }
 {
-    if rule::pair_fault(nodes(net), sender, receiver) {
+    if faults::pair_fault(nodes(net), sender, receiver) {
         return HeldRead::Refused;
     }
     pair_held(net, sender, receiver)
@@ -289,13 +289,11 @@ fn row_number(net: &Network, node: u32, label: u32, predecessor: u32, list: u32)
     if n <= node {
         return 3;
     }
-    if rule::row_fault(n, net[ORIGIN], node, label, predecessor, list) {
-        return 5;
-    }
-    0
+    faults::row_fault(n, net[ORIGIN], node, label, predecessor, list)
 }
 
-// Sets a relay's row. Answers 0; 3 for a node not below n; 5 for a fault of form.
+// Sets a relay's row. Answers 0; 3 for a node not below n; then, of its form, 5 for a row for the origin, 10 for the label, 11 for the predecessor,
+// 12 for the list.
 pub fn place_row(net: &mut Network, node: u32, label: u32, predecessor: u32, list: u32) -> u8
     ensures { λ k. ⌜ Leaves (placeRowOf (view (now (net .entry))) node label predecessor list) k (now (net .entry)) (now (net .exit)) ⌝ }
 {
@@ -316,16 +314,13 @@ fn report_number(net: &Network, sender: u32, receiver: u32, label: u32, list: u3
     ensures { λ k. ⌜ k ≡ placeReportNumber (view (now (net .entry))) sender receiver label list ⌝ }
 {
     let n = nodes(net);
-    if rule::pair_fault(n, sender, receiver) {
+    if faults::pair_fault(n, sender, receiver) {
         return 3;
     }
-    if rule::report_fault(n, cost_word(net, sender, receiver), sender, label, list) {
-        return 5;
-    }
-    0
+    faults::report_fault(n, cost_word(net, sender, receiver), sender, label, list)
 }
 
-// Sets the report that an arc holds. Answers 0; 3 for a bad pair; 5 for a fault of form, as a pair without an arc.
+// Sets the report that an arc holds. Answers 0; 3 for a bad pair; then, of its form, 5 for a pair without an arc, 10 for the label, 12 for the list.
 pub fn place_report(net: &mut Network, sender: u32, receiver: u32, label: u32, list: u32) -> u8
     ensures { λ k. ⌜ Leaves (placeReportOf (view (now (net .entry))) sender receiver label list) k (now (net .entry)) (now (net .exit)) ⌝ }
 {

@@ -1,4 +1,5 @@
--- Document 01, "What input alone brings on": the limits, the conditions behind numbers 3 and 5, each by itself, and the order of numbers.
+-- Document 01, "What input alone brings on", with request Two: the limits, the conditions behind numbers 3, 5, 10, 11 and 12, each by itself, and
+-- the order of numbers.
 -- Assumes nothing.
 use mathlib.Core.Bool.{Bool, cond, not, _||_}
 use Prim.Native.Nat.{ℕ, _*_, _^_}
@@ -27,7 +28,7 @@ maxGrade = 15
 
 -- the largest number with which a change, a round or a record of a file is refused
 abbrev pub maxRefusal : ℕ
-maxRefusal = 7
+maxRefusal = 12
 
 -- ---- 3, range
 
@@ -51,31 +52,31 @@ costFault c = ltb maxCost c
 unfoldable pub gradeFault : ℕ → Bool
 gradeFault g = ltb maxGrade g
 
--- ---- 5, form
+-- ---- 5, 10, 11 and 12, form
 
--- a row for the origin
+-- 5: a row for the origin
 unfoldable pub originFault : ℕ → ℕ → Bool
 originFault origin y = eqb y origin
 
--- a row's label is 0 or above the largest
+-- 5: a report without an arc, whose cost would be c
+unfoldable pub arcFault : ℕ → Bool
+arcFault c = eqb c 0
+
+-- 10: a row's label is 0 or above the largest
 unfoldable pub rowLabelFault : ℕ → Bool
 rowLabelFault d = eqb d 0 || ltb maxLabel d
 
--- a report's label is above the largest
+-- 10: a report's label is above the largest
 unfoldable pub reportLabelFault : ℕ → Bool
 reportLabelFault d = ltb maxLabel d
 
--- a predecessor is not below n or is the node itself
+-- 11: a predecessor is not below n or is the node itself
 unfoldable pub predecessorFault : ℕ → ℕ → ℕ → Bool
 predecessorFault n y p = leb n p || eqb p y
 
--- a list has a bit not below n, or lacks the bit of node i
+-- 12: a list has a bit not below n, or lacks the bit of node i
 unfoldable pub listFault : ℕ → ℕ → ℕ → Bool
 listFault n i l = leb (2 ^ n) l || not (has l i)
-
--- a report without an arc, whose cost would be c
-unfoldable pub arcFault : ℕ → Bool
-arcFault c = eqb c 0
 
 -- a row of node y has one of these faults
 unfoldable pub rowFault : ℕ → ℕ → ℕ → ℕ → ℕ → ℕ → Bool
@@ -84,6 +85,18 @@ rowFault n origin y d p l = originFault origin y || (rowLabelFault d || (predece
 -- a report of sender s over an arc of cost c has one of these faults
 unfoldable pub reportFault : ℕ → ℕ → ℕ → ℕ → ℕ → Bool
 reportFault n c s d l = arcFault c || (reportLabelFault d || listFault n s l)
+
+-- the number of a list: 12, or 0 without a fault
+unfoldable pub listNumber : ℕ → ℕ → ℕ → ℕ
+listNumber n i l = cond (listFault n i l) 12 0
+
+-- the number of a row: 5, then 10, then 11, then 12
+unfoldable pub rowFormNumber : ℕ → ℕ → ℕ → ℕ → ℕ → ℕ → ℕ
+rowFormNumber n origin y d p l = cond (originFault origin y) 5 (cond (rowLabelFault d) 10 (cond (predecessorFault n y p) 11 (listNumber n y l)))
+
+-- the number of a report: 5, then 10, then 12
+unfoldable pub reportFormNumber : ℕ → ℕ → ℕ → ℕ → ℕ → ℕ
+reportFormNumber n c s d l = cond (arcFault c) 5 (cond (reportLabelFault d) 10 (listNumber n s l))
 
 -- ---- order
 

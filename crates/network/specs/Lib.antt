@@ -1,4 +1,5 @@
 pub mod Faults
+pub mod Form
 pub mod Network
 pub mod Round
 pub mod Change

@@ -70,7 +70,7 @@ fn judge(number: u8, rank: usize) -> Next
 fn place_arc(net: &mut Network, next: usize, sender: u32, receiver: u32, cost: u32) -> Next
     ensures { λ r. ⌜ Places (view (now (net .entry))) next (Change (Set sender receiver cost)) r (view (now (net .exit))) ⌝ }
 {
-    if rule::pair_fault(memory::nodes(net), sender, receiver) {
+    if faults::pair_fault(memory::nodes(net), sender, receiver) {
         return Next::Stopped(3);
     }
     if network::MAX_COST < cost {
@@ -83,7 +83,7 @@ fn place_arc(net: &mut Network, next: usize, sender: u32, receiver: u32, cost: u
     judge(memory::change(net, sender, receiver, cost), rank)
 }
 
-// Sets a row of the image: 3, 4, then 5 for its form.
+// Sets a row of the image: 3, 4, then the number of its form.
 fn place_row(
     net: &mut Network,
     next: usize,
@@ -104,7 +104,7 @@ fn place_row(
     judge(memory::place_row(net, node, label, predecessor, list), rank)
 }
 
-// Sets a held report of the image: 3, 4, then 5 for its form.
+// Sets a held report of the image: 3, 4, then the number of its form.
 fn place_report(
     net: &mut Network,
     next: usize,
@@ -115,7 +115,7 @@ fn place_report(
 ) -> Next
     ensures { λ r. ⌜ Places (view (now (net .entry))) next (Report sender receiver label list) r (view (now (net .exit))) ⌝ }
 {
-    if rule::pair_fault(memory::nodes(net), sender, receiver) {
+    if faults::pair_fault(memory::nodes(net), sender, receiver) {
         return Next::Stopped(3);
     }
     let rank = FIRST_REPORT + pair_rank(sender, receiver);

@@ -123,7 +123,7 @@ fn grade_body(b: &[u8], at: usize) -> Event
             place: at,
         };
     }
-    let change = change_to(get8(b, 0), get8(b, 1), rule::grade_cost(grade));
+    let change = change_to(get8(b, 0), get8(b, 1), faults::grade_cost(grade));
     Event::Change(change)
 }
 

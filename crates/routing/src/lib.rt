@@ -193,7 +193,7 @@ fn stray_row(n: u32, receiver: u32, word: u32) -> bool
     if ancestors::listed(word, receiver) {
         return true;
     }
-    rule::bit_beyond(n, word)
+    faults::bit_beyond(n, word)
 }
 
 fn stray_marks(n: u32, marks: &[u32]) -> bool

@@ -1,3 +1,2 @@
--- What the leaf functions compute: bits not below n, and the winner as two loops find it.
-mod Bits
+-- What the choice computes: the winner as two loops find it.
 mod Least

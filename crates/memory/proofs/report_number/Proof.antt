@@ -4,7 +4,7 @@ use borrow.Author.Needs.{needs}
 use mathlib.Core.Bool.{true, false}
 use mathlib.Core.Path.{_≡_, sym, _∙_}
 use denote.Ref.{now}
-use Rattle.network.specs.Faults.{pairFault, reportFault}
+use Rattle.network.specs.Faults.{pairFault, reportFormNumber}
 use Rattle.network.specs.Placing.{placeReportNumber}
 use Rattle.memory.specs.Layout.{view}
 use Rattle.memory.proofs.Store.{sender-node, receiver-node, pair-tested}
@@ -33,26 +33,12 @@ cost-word-requires c κs =
 returns-2 : tie.Need-returns-2
 unfolding placeReportNumber
 returns-2 c =
-    let a = c .before .before .before .before .before .before .before .args in
+    let a = c .before .before .before .before .before .before .args in
     let w = now (a .net) in
+    let n = c .before .before .before .before .before .nodes .ensures in
     let e : pairFault (view w .nodes) (a .sender) (a .receiver) ≡ false =
-    pair-tested w _ (a .sender) (a .receiver) _ _ (c .before .before .before .before .before .before .nodes .ensures) (c .before .before .before .before .before .pair-fault .ensures) (c .before .before .before .before .if1 .left) in
-    let f : reportFault (view w .nodes) (view w .cost (a .sender) (a .receiver)) (a .sender) (a .label) (a .list) ≡ true =
-    (λ j. reportFault (sym (c .before .before .before .before .before .before .nodes .ensures) j) (sym (c .before .before .cost-word .ensures) j) (a .sender) (a .label) (a .list))
-    ∙ sym (c .before .report-fault .ensures) ∙ c .if2 .taken in
-    rw (e, f)
-
-returns-3 : tie.Need-returns-3
-unfolding placeReportNumber
-returns-3 c =
-    let a = c .before .before .before .before .before .before .before .args in
-    let w = now (a .net) in
-    let e : pairFault (view w .nodes) (a .sender) (a .receiver) ≡ false =
-    pair-tested w _ (a .sender) (a .receiver) _ _ (c .before .before .before .before .before .before .nodes .ensures) (c .before .before .before .before .before .pair-fault .ensures) (c .before .before .before .before .if1 .left) in
-    let f : reportFault (view w .nodes) (view w .cost (a .sender) (a .receiver)) (a .sender) (a .label) (a .list) ≡ false =
-    (λ j. reportFault (sym (c .before .before .before .before .before .before .nodes .ensures) j) (sym (c .before .before .cost-word .ensures) j) (a .sender) (a .label) (a .list))
-    ∙ sym (c .before .report-fault .ensures) ∙ c .if2 .left in
-    rw (e, f)
+    pair-tested w _ (a .sender) (a .receiver) _ _ n (c .before .before .before .before .pair-fault .ensures) (c .before .before .before .if1 .left) in
+    rw e (c .report-fault .ensures ∙ (λ j. reportFormNumber (n j) (c .before .cost-word .ensures j) (a .sender) (a .label) (a .list)))
 
 pub report-number-spec : {M : Type 1} → statement M
 report-number-spec =
@@ -63,5 +49,4 @@ report-number-spec =
     returns
     cost-word-requires
     (λ c κs. search needs)
-    returns-2
-    returns-3)
+    returns-2)

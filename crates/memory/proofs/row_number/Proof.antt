@@ -3,11 +3,10 @@
 use borrow.Author.Needs.{needs}
 use native.Mathlib.Omega.{arith}
 use Prim.Native.Nat.{_<_, _≤_}
-use mathlib.Core.Bool.{true, false}
-use mathlib.Core.Path.{_≡_, sym, _∙_}
+use mathlib.Core.Path.{_∙_}
 use denote.Ref.{now}
 use borrow.Author.Tests.{le-leb}
-use Rattle.network.specs.Faults.{nodeFault, rowFault}
+use Rattle.network.specs.Faults.{nodeFault, rowFormNumber}
 use Rattle.network.specs.Placing.{placeRowNumber}
 use Rattle.network.proofs.FaultLaws.{node-free}
 use Rattle.memory.specs.Layout.{view}
@@ -26,26 +25,13 @@ returns c =
 returns-2 : tie.Need-returns-2
 unfolding placeRowNumber
 returns-2 c =
-    let a = c .before .before .before .before .before .args in
+    let a = c .before .before .before .before .args in
     let w = now (a .net) in
     let o = read-first w in
     let h : a .node < view w .nodes = omega arith in
-    let e : rowFault (view w .nodes) (view w .origin) (a .node) (a .label) (a .predecessor) (a .list) ≡ true =
-    (λ j. rowFault (sym (c .before .before .before .before .nodes .ensures) j) (sym o j) (a .node) (a .label) (a .predecessor) (a .list))
-    ∙ sym (c .before .row-fault .ensures) ∙ c .if2 .taken in
-    rw (node-free (view w .nodes) (a .node) h, e)
-
-returns-3 : tie.Need-returns-3
-unfolding placeRowNumber
-returns-3 c =
-    let a = c .before .before .before .before .before .args in
-    let w = now (a .net) in
-    let o = read-first w in
-    let h : a .node < view w .nodes = omega arith in
-    let e : rowFault (view w .nodes) (view w .origin) (a .node) (a .label) (a .predecessor) (a .list) ≡ false =
-    (λ j. rowFault (sym (c .before .before .before .before .nodes .ensures) j) (sym o j) (a .node) (a .label) (a .predecessor) (a .list))
-    ∙ sym (c .before .row-fault .ensures) ∙ c .if2 .left in
-    rw (node-free (view w .nodes) (a .node) h, e)
+    rw (node-free (view w .nodes) (a .node) h)
+    (c .row-fault .ensures ∙
+    (λ j. rowFormNumber (c .before .before .before .nodes .ensures j) (o j) (a .node) (a .label) (a .predecessor) (a .list)))
 
 pub row-number-spec : {M : Type 1} → statement M
 row-number-spec =
@@ -55,5 +41,4 @@ row-number-spec =
     returns
     (λ c. search needs)
     (λ c κs. search needs)
-    returns-2
-    returns-3)
+    returns-2)

@@ -1,11 +1,11 @@
--- `rule::bit_beyond` meets its contract: a shift leaves the bits not below n.
+-- `faults::bit_beyond` meets its contract: a shift leaves the bits not below n.
 -- Assumes nothing.
 use native.Mathlib.Omega.{arith}
 use mathlib.Core.Path.{sym}
 use borrow.Author.Tests.{lt-leb}
-use Rattle.rule.proofs.Bits.{shift-none, shift-some}
-use Rattle.rule.proofs.bit_beyond.Statement.{statement}
-use Rattle.rule.proofs.bit_beyond.Tie as tie
+use Rattle.faults.proofs.Bits.{shift-none, shift-some}
+use Rattle.faults.proofs.bit_beyond.Statement.{statement}
+use Rattle.faults.proofs.bit_beyond.Tie as tie
 
 returns : tie.Need-returns
 returns c = sym (lt-leb _ _ (shift-none (c .before .args .n) (c .before .args .list) (c .before .fits .list .fits) (c .if1 .taken)))

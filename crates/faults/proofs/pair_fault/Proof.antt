@@ -1,9 +1,9 @@
--- `rule::pair_fault` meets its contract, test by test.
+-- `faults::pair_fault` meets its contract, test by test.
 -- Assumes nothing.
 use borrow.Author.Tests.{le-leb, lt-leb}
 use Rattle.network.specs.Faults.{pairFault}
-use Rattle.rule.proofs.pair_fault.Statement.{statement}
-use Rattle.rule.proofs.pair_fault.Tie as tie
+use Rattle.faults.proofs.pair_fault.Statement.{statement}
+use Rattle.faults.proofs.pair_fault.Tie as tie
 
 returns : tie.Need-returns
 unfolding pairFault

@@ -1,12 +1,12 @@
--- `rule::grade_cost` meets its contract: the code's table is the definition's.
+-- `faults::grade_cost` meets its contract: the code's table is the definition's.
 -- Assumes nothing.
 use borrow.Author.Needs.{needs}
 use native.Mathlib.Omega.{arith}
 use mathlib.Core.Path.{refl, sym}
 use Rattle.network.specs.Change.{gradeCost, grades}
 use lib.ListN.{List·getD-eq-default}
-use Rattle.rule.proofs.grade_cost.Statement.{statement}
-use Rattle.rule.proofs.grade_cost.Tie as tie
+use Rattle.faults.proofs.grade_cost.Statement.{statement}
+use Rattle.faults.proofs.grade_cost.Tie as tie
 
 returns : tie.Need-returns
 unfolding gradeCost

@@ -1,0 +1,2 @@
+-- What the leaf functions compute: bits not below n.
+mod Bits
