@@ -1,9 +1,10 @@
 -- Request Two, stated: each number of form is given exactly under its condition, after the ones before it, and 0 exactly without a fault of form.
+-- The number of before, for the statement about records (records/specs/Refusals).
 -- Assumes nothing.
 use mathlib.Core.Path.{_≡_}
-use mathlib.Core.Bool.{not, _&&_, _||_}
+use mathlib.Core.Bool.{cond, not, _&&_, _||_}
 use Prim.Native.Nat.{ℕ}
-use lib.Dec.{eqb}
+use lib.Dec.{eqb, leb}
 use Rattle.network.specs.Faults.{originFault, rowLabelFault, reportLabelFault, predecessorFault, listFault, arcFault, rowFault, reportFault, rowFormNumber, reportFormNumber}
 
 -- of a row of node y
@@ -29,3 +30,7 @@ pub record ReportNumbered (n c s d l : ℕ) : Type 0 where
   pub list : eqb (reportFormNumber n c s d l) 12 ≡ (not (arcFault c || reportLabelFault d) && listFault n s l)
   -- 0 where none of them applies
   pub none : eqb (reportFormNumber n c s d l) 0 ≡ not (reportFault n c s d l)
+
+-- the number of before, which was 5 for each of 5, 10, 11 and 12
+unfoldable pub asBefore : ℕ → ℕ
+asBefore k = cond (leb 10 k) 5 k

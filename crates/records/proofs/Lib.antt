@@ -17,6 +17,7 @@ pub mod SameImage
 pub mod ImageSteps
 pub mod Acceptance
 -- what opening and runs answer
+pub mod Refusals
 pub mod Opened
 pub mod Enough
 pub mod Begun

@@ -47,12 +47,12 @@ orderNumber next k = cond (ltb k next) 4 0
 unfoldable pub arcNumber : Net → ℕ → ℕ → ℕ → ℕ → ℕ
 arcNumber x next s r c = firstOf (changeNumber x s r c) (orderNumber next (arcRank s r))
 
--- 3, then 4, then 5
+-- 3, then 4, then the number of its form
 unfoldable pub rowNumber : Net → ℕ → ℕ → ℕ → ℕ → ℕ → ℕ
 rowNumber x next y d p l =
     firstOf (cond (nodeFault (x .nodes) y) 3 0) (firstOf (orderNumber next (rowRank y)) (placeRowNumber x y d p l))
 
--- 3, then 4, then 5
+-- 3, then 4, then the number of its form
 unfoldable pub reportNumber : Net → ℕ → ℕ → ℕ → ℕ → ℕ → ℕ
 reportNumber x next s r d l =
     firstOf (cond (pairFault (x .nodes) s r) 3 0) (firstOf (orderNumber next (reportRank s r)) (placeReportNumber x s r d l))
