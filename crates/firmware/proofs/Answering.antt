@@ -22,6 +22,10 @@ use Rattle.firmware.specs.Calling.{Called, maxRun, refusedAnswer, callOf
 use Rattle.firmware.specs.Demand.{OpensPromised, CallSettles}
 use Rattle.firmware.proofs.Calling.{call-long, call-refused, call-short, call-written}
 
+-- a number fits the five bits that it has in an answer
+pub number-fits : (number : ℕ) → number ≤ maxRefusal → number < 32
+number-fits number h = omega arith
+
 -- number and place of a refusal
 number-part : (number place : ℕ) → number < 32 → refusedAnswer number place % 32 ≡ number
 unfolding refusedAnswer
@@ -42,8 +46,8 @@ module _ (run out : List ℕ) where
   told : (number place : ℕ) → 0 < number → number ≤ maxRefusal → place ≤ length run → callOf run out ≡ record { answer = refusedAnswer number place; output = out }
       → CallIs run out (callOf run out)
   told number place a b p e =
-      refused number place a b p (ap (λ (o : Called). o .answer % 32) e ∙ number-part number place (omega arith))
-      (ap (λ (o : Called). o .answer / 32) e ∙ place-part number place (omega arith)) (ap (λ (o : Called). o .output) e)
+      refused number place a b p (ap (λ (o : Called). o .answer % 32) e ∙ number-part number place (number-fits number b))
+      (ap (λ (o : Called). o .answer / 32) e ∙ place-part number place (number-fits number b)) (ap (λ (o : Called). o .output) e)
 
   pub call-is : CallIs run out (callOf run out)
   call-is = by-length (le-or-lt (length run) maxRun)
