@@ -5,7 +5,7 @@ use mathlib.Core.Bool.{Bool, true, false, cond, not, _&&_, _||_}
 use Prim.Native.Nat.{ℕ}
 use lib.Dec.{eqb}
 use borrow.Author.Tests.{eqb-true, eq-eqb, not-true}
-use Rattle.network.specs.Faults.{nodeFault, pairFault, originFault, rowLabelFault, reportLabelFault, predecessorFault, listFault, arcFault, rowFault, reportFault, listNumber, rowFormNumber, reportFormNumber}
+use Rattle.network.specs.Faults.{nodeFault, pairFault, originFault, rowLabelFault, reportLabelFault, predecessorFault, listFault, arcFault, rowFault, reportFault, rowFormNumber, reportFormNumber, firstOf}
 use Rattle.network.specs.Network.{Net}
 use Rattle.network.specs.Placing.{placeRowNumber, placeReportNumber}
 use Rattle.network.specs.Form.{RowNumbered, ReportNumbered, asBefore}
@@ -13,12 +13,12 @@ use Rattle.network.specs.Form.{RowNumbered, ReportNumbered, asBefore}
 -- ---- of four tests or three, the number of the first that holds
 
 abbrev four : Bool → Bool → Bool → Bool → ℕ
-four a b c d = cond a 5 (cond b 10 (cond c 11 (cond d 12 0)))
+four a b c d = firstOf (cond a 5 0) (firstOf (cond b 10 0) (firstOf (cond c 11 0) (cond d 12 0)))
 
 four-tests : (a b c d : Bool) → (eqb (four a b c d) 5 ≡ a) × (eqb (four a b c d) 10 ≡ (not a && b)) × (eqb (four a b c d) 11 ≡ (not (a || b) && c)) ×
     (eqb (four a b c d) 12 ≡ (not (a || (b || c)) && d)) × (eqb (four a b c d) 0 ≡ not (a || (b || (c || d)))) ×
     (asBefore (four a b c d) ≡ cond (a || (b || (c || d))) 5 0)
-unfolding asBefore
+unfolding asBefore firstOf
 four-tests true b c d = (refl, refl, refl, refl, refl, refl)
 four-tests false true c d = (refl, refl, refl, refl, refl, refl)
 four-tests false false true d = (refl, refl, refl, refl, refl, refl)
@@ -26,11 +26,11 @@ four-tests false false false true = (refl, refl, refl, refl, refl, refl)
 four-tests false false false false = (refl, refl, refl, refl, refl, refl)
 
 abbrev three : Bool → Bool → Bool → ℕ
-three a b d = cond a 5 (cond b 10 (cond d 12 0))
+three a b d = firstOf (cond a 5 0) (firstOf (cond b 10 0) (cond d 12 0))
 
 three-tests : (a b d : Bool) → (eqb (three a b d) 5 ≡ a) × (eqb (three a b d) 10 ≡ (not a && b)) × (eqb (three a b d) 12 ≡ (not (a || b) && d)) ×
     (eqb (three a b d) 0 ≡ not (a || (b || d))) × (asBefore (three a b d) ≡ cond (a || (b || d)) 5 0)
-unfolding asBefore
+unfolding asBefore firstOf
 three-tests true b d = (refl, refl, refl, refl, refl)
 three-tests false true d = (refl, refl, refl, refl, refl)
 three-tests false false true = (refl, refl, refl, refl, refl)
@@ -40,7 +40,7 @@ three-tests false false false = (refl, refl, refl, refl, refl)
 
 module _ (n origin y d p l : ℕ) where
   pub row-numbered : RowNumbered n origin y d p l
-  unfolding rowFormNumber listNumber rowFault
+  unfolding rowFormNumber rowFault
   row-numbered =
       let t = four-tests (originFault origin y) (rowLabelFault d) (predecessorFault n y p) (listFault n y l) in
       record { form = t .0; label = t .1; predecessor = t .2; list = t .3; none = t .4 }
@@ -55,7 +55,7 @@ module _ (n origin y d p l : ℕ) where
 
 module _ (n c s d l : ℕ) where
   pub report-numbered : ReportNumbered n c s d l
-  unfolding reportFormNumber listNumber reportFault
+  unfolding reportFormNumber reportFault
   report-numbered =
       let t = three-tests (arcFault c) (reportLabelFault d) (listFault n s l) in
       record { form = t .0; label = t .1; list = t .2; none = t .3 }
@@ -75,13 +75,13 @@ then-before false k b e = e
 
 pub place-row-before : (x : Net) (y d p l : ℕ) →
     asBefore (placeRowNumber x y d p l) ≡ cond (nodeFault (x .nodes) y) 3 (cond (rowFault (x .nodes) (x .origin) y d p l) 5 0)
-unfolding placeRowNumber rowFormNumber listNumber rowFault
+unfolding placeRowNumber rowFormNumber rowFault
 place-row-before x y d p l =
     then-before (nodeFault (x .nodes) y) _ _
     (four-tests (originFault (x .origin) y) (rowLabelFault d) (predecessorFault (x .nodes) y p) (listFault (x .nodes) y l) .5)
 
 pub place-report-before : (x : Net) (s r d l : ℕ) →
     asBefore (placeReportNumber x s r d l) ≡ cond (pairFault (x .nodes) s r) 3 (cond (reportFault (x .nodes) (x .cost s r) s d l) 5 0)
-unfolding placeReportNumber reportFormNumber listNumber reportFault
+unfolding placeReportNumber reportFormNumber reportFault
 place-report-before x s r d l =
     then-before (pairFault (x .nodes) s r) _ _ (three-tests (arcFault (x .cost s r)) (reportLabelFault d) (listFault (x .nodes) s l) .4)

@@ -11,7 +11,7 @@ use Rattle.ancestors.proofs.Cases.{eq-or-ne, cond-by}
 use Rattle.network.specs.Faults.{maxRefusal, nodeFault, pairFault, firstOf}
 use Rattle.network.specs.Network.{Net, freshNet, freshNumber}
 use Rattle.network.proofs.Effects.{outcome-number, number-of, change-outcome, round-outcome, full-round-outcome}
-use Rattle.network.proofs.Numbers.{cond-most, fresh-most, change-most, place-row-most, place-report-most, round-most}
+use Rattle.network.proofs.Numbers.{test-most, first-most, fresh-most, change-most, place-row-most, place-report-most, round-most}
 use Rattle.records.specs.Numbers.{wordsIn}
 use Rattle.records.specs.Records.{atStart, inImage, asEvent, bodyOf, recordOf}
 use Rattle.records.specs.Opening.{Step, stop, finish, onward, orderNumber, arcNumber, rowNumber, reportNumber, judged, placed, Opening, afterStep, readRecords, started, headed, openOf}
@@ -32,14 +32,9 @@ StopMost (stop e) = e ≤ maxRefusal
 StopMost finish = Unit {0}
 StopMost (onward z k) = Unit {0}
 
--- the first of two numbers that is not 0 is one of them
-first-most : (m a b : ℕ) → a ≤ m → b ≤ m → firstOf a b ≤ m
-unfolding firstOf
-first-most m a b f g = cond-most m (eqb a 0) b a g f
-
 order-most : (next k : ℕ) → orderNumber next k ≤ maxRefusal
 unfolding orderNumber
-order-most next k = cond-most maxRefusal (ltb k next) 4 0 (omega arith) (omega arith)
+order-most next k = test-most (ltb k next) 4 (omega arith)
 
 judged-most : (e : ℕ) (z : Net) (k : ℕ) → e ≤ maxRefusal → StopMost (judged e z k)
 unfolding judged
@@ -51,14 +46,14 @@ unfolding placed arcNumber rowNumber reportNumber
 placed-most x next at bs End q = tt
 placed-most x next at bs (Header n o) q = omega arith
 placed-most x next at bs (Change (Set s r c)) q =
-    judged-most (arcNumber x next s r c) _ _ (first-most maxRefusal _ _ (change-most x s r c) (order-most next _))
+    judged-most (arcNumber x next s r c) _ _ (first-most _ _ (change-most x s r c) (order-most next _))
 placed-most x next at bs (Change (Removed s r)) q = omega arith
 placed-most x next at bs (Row y d p l) q =
     judged-most (rowNumber x next y d p l) _ _
-    (first-most maxRefusal _ _ (cond-most maxRefusal (nodeFault (x .nodes) y) 3 0 (omega arith) (omega arith)) (first-most maxRefusal _ _ (order-most next _) (place-row-most x y d p l)))
+    (first-most _ _ (test-most (nodeFault (x .nodes) y) 3 (omega arith)) (first-most _ _ (order-most next _) (place-row-most x y d p l)))
 placed-most x next at bs (Report s r d l) q =
     judged-most (reportNumber x next s r d l) _ _
-    (first-most maxRefusal _ _ (cond-most maxRefusal (pairFault (x .nodes) s r) 3 0 (omega arith) (omega arith)) (first-most maxRefusal _ _ (order-most next _) (place-report-most x s r d l)))
+    (first-most _ _ (test-most (pairFault (x .nodes) s r) 3 (omega arith)) (first-most _ _ (order-most next _) (place-report-most x s r d l)))
 placed-most x next at bs Round q = omega arith
 placed-most x next at bs FullRound q = omega arith
 placed-most x next at bs (Refusal e p) q = omega (arith, expected inImage at bs (Refusal e p) q .2)
