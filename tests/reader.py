@@ -1,6 +1,6 @@
-"""Document 01 with change request One in plain Python, for comparison with the proved code: networks, changes, grades, rounds, images, runs, routes.
+"""Document 01 with change requests One and Two in plain Python, for comparison with the proved code: networks, changes, grades, rounds, images, runs, routes.
 
-Written from the papers alone. Every call answers a number first: 0, or the number that the document refuses it under.
+Written from the papers alone. Every call answers a number first: 0, or the number that the papers refuse it under.
 """
 
 MOST_NODES = 32
@@ -141,7 +141,7 @@ def full_round(network):
     return 0
 
 
-# What is refused: range as 3, form as 5
+# What is refused as 3
 
 
 def header_range(n, origin):
@@ -152,24 +152,40 @@ def pair_range(network, sender, receiver):
     return sender >= network.n or receiver >= network.n or sender == receiver
 
 
-def list_form(network, nodes, node):
+# A row or a report placed in the network: in an image order, 4, is tested after 3
+
+
+def wrong_list(network, nodes, node):
     """A bit not below n, or the node's bit missing."""
     return nodes >> network.n != 0 or not listed(nodes, node)
 
 
-def row_form(network, node, label, predecessor, nodes):
-    return (
-        node == network.origin
-        or label == 0
-        or label > MOST_LABEL
-        or predecessor >= network.n
-        or predecessor == node
-        or list_form(network, nodes, node)
-    )
+def place_row(network, node, label, predecessor, nodes):
+    if node >= network.n:
+        return 3
+    if node == network.origin:
+        return 5
+    if label == 0 or label > MOST_LABEL:
+        return 10
+    if predecessor >= network.n or predecessor == node:
+        return 11
+    if wrong_list(network, nodes, node):
+        return 12
+    network.rows[node] = label, predecessor, nodes
+    return 0
 
 
-def report_form(network, sender, receiver, label, nodes):
-    return label > MOST_LABEL or list_form(network, nodes, sender) or (sender, receiver) not in network.cost
+def place_report(network, sender, receiver, label, nodes):
+    if pair_range(network, sender, receiver):
+        return 3
+    if (sender, receiver) not in network.cost:
+        return 5
+    if label > MOST_LABEL:
+        return 10
+    if wrong_list(network, nodes, sender):
+        return 12
+    network.held[sender, receiver] = label, nodes
+    return 0
 
 
 # Records
@@ -193,17 +209,23 @@ def record(data, place, allowed):
     return kind, body
 
 
+def row_record(node, label, predecessor, nodes):
+    return bytes([ROW, node]) + label.to_bytes(4, "big") + bytes([predecessor]) + nodes.to_bytes(4, "big")
+
+
+def report_record(sender, receiver, label, nodes):
+    return bytes([REPORT, sender, receiver]) + label.to_bytes(4, "big") + nodes.to_bytes(4, "big")
+
+
 def image(network):
     """The image: kind 1, arcs, rows, held reports, kind 0."""
     out = bytearray([HEADER, network.n, network.origin])
     for sender, receiver in sorted(network.cost):
         out += bytes([ARC, sender, receiver]) + network.cost[sender, receiver].to_bytes(2, "big")
     for node in sorted(network.rows):
-        label, predecessor, nodes = network.rows[node]
-        out += bytes([ROW, node]) + label.to_bytes(4, "big") + bytes([predecessor]) + nodes.to_bytes(4, "big")
+        out += row_record(node, *network.rows[node])
     for sender, receiver in sorted(network.held):
-        label, nodes = network.held[sender, receiver]
-        out += bytes([REPORT, sender, receiver]) + label.to_bytes(4, "big") + nodes.to_bytes(4, "big")
+        out += report_record(sender, receiver, *network.held[sender, receiver])
     out.append(END)
     return bytes(out)
 
@@ -227,28 +249,23 @@ def read_header(data):
 def read_slot(network, kind, body, place, last):
     """An arc, a row or a report of an image; its rank in image order. last is the rank of the record before."""
     if kind == ROW:
-        node, label, predecessor, nodes = body[0], number(body[1:5]), body[5], number(body[6:10])
-        rank = kind, node, 0
-        if node >= network.n:
-            raise Refused(3, place)
+        rank = kind, body[0], 0
+        wrong = body[0] >= network.n
     else:
-        sender, receiver = body[0], body[1]
-        rank = kind, sender, receiver
-        if pair_range(network, sender, receiver) or (kind == ARC and number(body[2:4]) == 0):
-            raise Refused(3, place)
+        rank = kind, body[0], body[1]
+        wrong = pair_range(network, body[0], body[1]) or (kind == ARC and number(body[2:4]) == 0)
+    if wrong:
+        raise Refused(3, place)
     if rank <= last:
         raise Refused(4, place)
     if kind == ARC:
-        network.cost[sender, receiver] = number(body[2:4])
+        refused = change(network, body[0], body[1], number(body[2:4]))
     elif kind == ROW:
-        if row_form(network, node, label, predecessor, nodes):
-            raise Refused(5, place)
-        network.rows[node] = label, predecessor, nodes
+        refused = place_row(network, body[0], number(body[1:5]), body[5], number(body[6:10]))
     else:
-        label, nodes = number(body[2:6]), number(body[6:10])
-        if report_form(network, sender, receiver, label, nodes):
-            raise Refused(5, place)
-        network.held[sender, receiver] = label, nodes
+        refused = place_report(network, body[0], body[1], number(body[2:6]), number(body[6:10]))
+    if refused:
+        raise Refused(refused, place)
     return rank
 
 

@@ -1,4 +1,4 @@
-// Document 01 with change request One in plain Rust, written from the papers alone: opening, events, rounds, changes, grades, image writing, and the
+// Document 01 with change requests One and Two in plain Rust, written from the papers alone: opening, events, rounds, changes, grades, image writing, and the
 // table of `routes`.
 // Clear rather than quick: an ancestor list is a set of nodes, arcs and held reports are maps by sender and receiver.
 // Built by itself it is a program: `reference text` prints what `routes` prints for the run on standard input, `reference image` writes the run's image.
@@ -213,10 +213,17 @@ fn image_record(network: &mut Network, record: &Record, before: Option<Order>) -
                 return Err(3);
             }
             let order = above((3, node, 0), before)?;
-            let label_right = (1..=MAX_LABEL).contains(&label);
-            let predecessor_right = predecessor < network.nodes && predecessor != node;
-            if node == network.origin || !label_right || !predecessor_right || !network.is_list(&list, node) {
+            if node == network.origin {
                 return Err(5);
+            }
+            if !(1..=MAX_LABEL).contains(&label) {
+                return Err(10);
+            }
+            if predecessor >= network.nodes || predecessor == node {
+                return Err(11);
+            }
+            if !network.is_list(&list, node) {
+                return Err(12);
             }
             network.rows[node as usize] = Some(Row { label, predecessor: Some(predecessor), list });
             Ok(order)
@@ -228,8 +235,14 @@ fn image_record(network: &mut Network, record: &Record, before: Option<Order>) -
                 return Err(3);
             }
             let order = above((4, pair.0, pair.1), before)?;
-            if label > MAX_LABEL || !network.is_list(&list, pair.0) || !network.arcs.contains_key(&pair) {
+            if !network.arcs.contains_key(&pair) {
                 return Err(5);
+            }
+            if label > MAX_LABEL {
+                return Err(10);
+            }
+            if !network.is_list(&list, pair.0) {
+                return Err(12);
             }
             network.reports.insert(pair, Report { label, list });
             Ok(order)
