@@ -32,9 +32,12 @@ static const char *meaning(enum gerqalli_number number)
     case GERQALLI_KIND: return "kind unknown or not allowed here";
     case GERQALLI_RANGE: return "out of range";
     case GERQALLI_ORDER: return "out of order";
-    case GERQALLI_FORM: return "wrong form of a row or report";
+    case GERQALLI_FORM: return "row for the origin, or report without an arc";
     case GERQALLI_ROOM: return "output too short";
     case GERQALLI_MARK: return "mark without an arc";
+    case GERQALLI_LABEL: return "label out of its limits";
+    case GERQALLI_PREDECESSOR: return "predecessor out of its limits";
+    case GERQALLI_LIST: return "wrong list";
     }
     return "no such number";
 }

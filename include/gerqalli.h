@@ -20,14 +20,17 @@ extern "C" {
 
 /* The number in an answer. Numbers 8 and 9 belong to the route call; gerqalli_run never gives them. */
 enum gerqalli_number {
-    GERQALLI_ACCEPTED = 0, /* accepted: the image is written */
-    GERQALLI_CUT = 1,      /* no kind byte where one is due, or a short body */
-    GERQALLI_KIND = 2,     /* kind unknown, or not allowed where it stands */
-    GERQALLI_RANGE = 3,    /* node, pair, cost, grade or mark out of range; at place 0 also a run above GERQALLI_MAX_RUN */
-    GERQALLI_ORDER = 4,    /* a record of the image not above the one before it */
-    GERQALLI_FORM = 5,     /* a row or a report with a wrong label, predecessor or list, a row for the origin, a report without an arc */
-    GERQALLI_ROOM = 6,     /* the output is shorter than the image; tested last, place 0 */
-    GERQALLI_MARK = 7      /* a round's mark on a pair without an arc */
+    GERQALLI_ACCEPTED = 0,     /* accepted: the image is written */
+    GERQALLI_CUT = 1,          /* no kind byte where one is due, or a short body */
+    GERQALLI_KIND = 2,         /* kind unknown, or not allowed where it stands */
+    GERQALLI_RANGE = 3,        /* node, pair, cost, grade or mark out of range; at place 0 also a run above GERQALLI_MAX_RUN */
+    GERQALLI_ORDER = 4,        /* a record of the image not above the one before it */
+    GERQALLI_FORM = 5,         /* a row for the origin, or a report without an arc */
+    GERQALLI_ROOM = 6,         /* the output is shorter than the image; tested last, place 0 */
+    GERQALLI_MARK = 7,         /* a round's mark on a pair without an arc */
+    GERQALLI_LABEL = 10,       /* a label above 2,031,585, or a row's label 0 */
+    GERQALLI_PREDECESSOR = 11, /* a row's predecessor is no node, or the node itself */
+    GERQALLI_LIST = 12         /* a list with a node that is not there, or without the row's node or the report's sender */
 };
 
 /*

@@ -16,6 +16,7 @@ _Static_assert(GERQALLI_MAX_IMAGE == 3 + 992 * 5 + 31 * 11 + 992 * 11 + 1, "the 
 _Static_assert(GERQALLI_MAX_RUN == 1 << 20, "the longest run");
 _Static_assert(GERQALLI_ACCEPTED == 0 && GERQALLI_CUT == 1 && GERQALLI_KIND == 2 && GERQALLI_RANGE == 3, "numbers 0 to 3");
 _Static_assert(GERQALLI_ORDER == 4 && GERQALLI_FORM == 5 && GERQALLI_ROOM == 6 && GERQALLI_MARK == 7, "numbers 4 to 7");
+_Static_assert(GERQALLI_LABEL == 10 && GERQALLI_PREDECESSOR == 11 && GERQALLI_LIST == 12, "numbers 10 to 12");
 
 static unsigned checks, failures;
 
@@ -148,6 +149,9 @@ int main(int count, char **words)
     refused("\1\2\2\0", 4, GERQALLI_RANGE, 0, "an origin that is no node");
     refused("\1\2\0\2\0\1\0\1\2\0\1\0\1\0", 14, GERQALLI_ORDER, 8, "an arc twice");
     refused("\1\2\0\4\0\1\0\0\0\0\0\0\0\1\0", 15, GERQALLI_FORM, 3, "a report without an arc");
+    refused("\1\2\0\3\1\0\0\0\0\0\0\0\0\2\0", 15, GERQALLI_LABEL, 3, "a row's label 0");
+    refused("\1\2\0\3\1\0\0\0\1\1\0\0\0\2\0", 15, GERQALLI_PREDECESSOR, 3, "a row's node as its predecessor");
+    refused("\1\2\0\3\1\0\0\0\1\0\0\0\0\1\0", 15, GERQALLI_LIST, 3, "a row's list without its node");
     memcpy(bytes, "\1\2\0\0\5", 5);
     memset(bytes + 5, 0, 128);
     bytes[5 + 4 + 3] = 1;
