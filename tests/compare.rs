@@ -1,6 +1,6 @@
 // The C call gerqalli_run beside the independent implementation in reference.rs: every answer, every byte of the output and the bytes around it.
 // Arguments: a seed and a count of random runs. The last line is 'compare: N runs, M differences'; the exit status is 0 where M is 0 and every
-// number from 0 to 7 and every refusal that a kind of record can have was seen.
+// number that the call can give, 0 to 7 and 10 to 12, and every refusal that a kind of record can have was seen, and no others.
 
 mod generate;
 #[allow(dead_code)] // the table of `routes` is compared elsewhere
@@ -127,6 +127,9 @@ const OUTPUT: usize = 10 * 4096;
 const SHORT: usize = 10 * 4096;
 const LONG: usize = reference::MAX_RUN + 4 * 4096;
 
+/// The numbers that the call can give; 8 and 9 are the route call's.
+const NUMBERS: [u64; 11] = [0, 1, 2, 3, 4, 5, 6, 7, 10, 11, 12];
+
 /// What can be refused: in the image or among the events, the kind of the record (`None`: no byte), the number.
 type Sort = (bool, Option<u8>, u8);
 /// Stands for every kind above 7.
@@ -140,7 +143,8 @@ struct Compare {
     /// Two fillings of the output that differ at each byte.
     fillings: [Vec<u8>; 2],
     kinds: BTreeMap<&'static str, usize>,
-    numbers: [usize; 8],
+    /// How often each number was to be given.
+    numbers: BTreeMap<u64, usize>,
     sorts: BTreeMap<Sort, usize>,
     runs: usize,
     longest: usize,
@@ -158,7 +162,7 @@ impl Compare {
             output: pages(OUTPUT),
             fillings: [filling(0), filling(0xff)],
             kinds: BTreeMap::new(),
-            numbers: [0; 8],
+            numbers: BTreeMap::new(),
             sorts: BTreeMap::new(),
             runs: 0,
             longest: 0,
@@ -224,7 +228,7 @@ impl Compare {
         let answer = pages.read_only(|bytes| lent::call(&bytes[start..start + run.len()], &mut output[from..from + room]));
 
         let expected = reference::answer(result, room);
-        self.numbers[(expected % 32) as usize] += 1;
+        *self.numbers.entry(expected % 32).or_default() += 1;
         let image: &[u8] = match result {
             Ok(image) if image.len() <= room => image,
             _ => &[],
@@ -385,7 +389,11 @@ impl Compare {
             println!("{count:>9} {kind}");
         }
         println!("longest image: {} bytes", self.longest);
-        println!("answers: {} accepted; refused as {}", self.numbers[0], (1..8).map(|n| format!("{n}: {}", self.numbers[n])).collect::<Vec<_>>().join(", "));
+        println!("calls by number: {}", self.numbers.iter().map(|(number, count)| format!("{number}: {count}")).collect::<Vec<_>>().join(", "));
+        let numbers = self.numbers.keys().copied().eq(NUMBERS);
+        if !numbers {
+            println!("the numbers are not just {NUMBERS:?}");
+        }
         let wanted = wanted();
         let unseen: Vec<_> = wanted.iter().filter(|sort| !self.sorts.contains_key(sort)).collect();
         let strange: Vec<_> = self.sorts.keys().filter(|sort| !wanted.contains(sort)).collect();
@@ -403,15 +411,24 @@ impl Compare {
         }
         println!("compare: {} calls", lent::calls());
         println!("compare: {} runs, {} differences", self.runs, self.differences);
-        self.differences == 0 && self.numbers.iter().all(|&count| count > 0) && unseen.is_empty() && strange.is_empty()
+        self.differences == 0 && numbers && unseen.is_empty() && strange.is_empty()
     }
 }
 
 /// All that can be refused.
 fn wanted() -> Vec<Sort> {
     let mut sorts = vec![(true, None, 1)];
-    let in_image: [(u8, &[u8]); 9] =
-        [(0, &[2]), (1, &[1, 2, 3]), (2, &[1, 2, 3, 4]), (3, &[1, 2, 3, 4, 5]), (4, &[1, 2, 3, 4, 5]), (5, &[2]), (6, &[2]), (7, &[2]), (UNKNOWN, &[2])];
+    let in_image: [(u8, &[u8]); 9] = [
+        (0, &[2]),
+        (1, &[1, 2, 3]),
+        (2, &[1, 2, 3, 4]),
+        (3, &[1, 2, 3, 4, 5, 10, 11, 12]),
+        (4, &[1, 2, 3, 4, 5, 10, 12]),
+        (5, &[2]),
+        (6, &[2]),
+        (7, &[2]),
+        (UNKNOWN, &[2]),
+    ];
     let events: [(u8, &[u8]); 8] = [(0, &[2]), (1, &[2]), (2, &[1, 3]), (3, &[2]), (4, &[2]), (5, &[1, 3, 7]), (7, &[1, 3]), (UNKNOWN, &[2])];
     for (kind, numbers) in in_image {
         sorts.extend(numbers.iter().map(|&number| (true, Some(kind), number)));
@@ -606,7 +623,7 @@ const CASES: &[(&str, Known)] = &[
     ("010200 00 0200020001", Refused(3, 4)),
     ("010200 00 0201010000", Refused(3, 4)),
     ("010200 00 07010100", Refused(3, 4)),
-    // order, over all records; 3 before 4 before 5
+    // order, over all records; 3 before 4, and 4 before what comes after it
     ("010300 0200010001 0200010001 00", Refused(4, 8)),
     ("010300 0201000001 0200010001 00", Refused(4, 8)),
     ("010300 0200020001 0200010001 00", Refused(4, 8)),
@@ -614,24 +631,82 @@ const CASES: &[(&str, Known)] = &[
     ("010300 0301 00000001 00 00000003 0200010001 00", Refused(4, 14)),
     ("010300 0301 00000001 00 00000003 0301 00000001 00 00000003 00", Refused(4, 14)),
     ("010300 0302 00000001 00 00000005 0300 00000000 00 00000000 00", Refused(4, 14)),
+    ("010300 0302 00000001 00 00000005 0301 00000000 00 00000003 00", Refused(4, 14)),
+    ("010300 0302 00000001 00 00000005 0301 00000001 01 00000003 00", Refused(4, 14)),
+    ("010300 0302 00000001 00 00000005 0301 00000001 00 00000001 00", Refused(4, 14)),
     ("010300 0200010001 040001 00000000 00000001 0302 00000001 00 00000005 00", Refused(4, 19)),
+    ("010300 0200010001 040001 00000000 00000001 040001 001effe2 00000001 00", Refused(4, 19)),
     ("010300 0200010001 040001 00000000 00000001 040001 00000000 00000000 00", Refused(4, 19)),
+    ("010300 0200020001 040002 00000000 00000001 040001 00000000 00000001 00", Refused(4, 19)),
     ("010300 0200010001 040001 00000000 00000001 040001 00000000 00", Refused(1, 19)),
-    // form
+    // a row for the origin, which need not be node 0
     ("010300 0300 00000001 01 00000001 00", Refused(5, 3)),
-    ("010300 0301 00000000 00 00000003 00", Refused(5, 3)),
-    ("010300 0301 001effe1 00 00000003 00", Image("010300 0301 001effe1 00 00000003 00")),
-    ("010300 0301 001effe2 00 00000003 00", Refused(5, 3)),
-    ("010300 0301 00000001 01 00000003 00", Refused(5, 3)),
-    ("010300 0301 00000001 03 00000003 00", Refused(5, 3)),
-    ("010300 0301 00000001 00 00000001 00", Refused(5, 3)),
-    ("010300 0301 00000001 00 0000000b 00", Refused(5, 3)),
-    ("010300 0301 00000001 02 00000007 00", Image("010300 0301 00000001 02 00000007 00")),
-    ("010300 0200010001 040001 001effe1 00000001 00", Image("010300 0200010001 040001 001effe1 00000001 00")),
-    ("010300 0200010001 040001 001effe2 00000001 00", Refused(5, 8)),
-    ("010300 0200010001 040001 00000000 00000002 00", Refused(5, 8)),
-    ("010300 0200010001 040001 00000000 00000009 00", Refused(5, 8)),
+    ("010302 0302 00000001 01 00000004 00", Refused(5, 3)),
+    ("010100 0300 00000001 00 00000001 00", Refused(5, 3)),
+    // a report without an arc; one the other way is another
+    ("010300 040001 00000000 00000001 00", Refused(5, 3)),
     ("010300 0200010001 040100 00000001 00000003 00", Refused(5, 8)),
+    // a row's label: from 1 to the largest
+    ("010300 0301 00000000 00 00000003 00", Refused(10, 3)),
+    ("010300 0301 00000001 00 00000003 00", Image("010300 0301 00000001 00 00000003 00")),
+    ("010300 0301 001effe1 00 00000003 00", Image("010300 0301 001effe1 00 00000003 00")),
+    ("010300 0301 001effe2 00 00000003 00", Refused(10, 3)),
+    ("010300 0301 ffffffff 00 00000003 00", Refused(10, 3)),
+    // a report's label: 0 too
+    ("010300 0200010001 040001 00000000 00000001 00", Image("010300 0200010001 040001 00000000 00000001 00")),
+    ("010300 0200010001 040001 001effe1 00000001 00", Image("010300 0200010001 040001 001effe1 00000001 00")),
+    ("010300 0200010001 040001 001effe2 00000001 00", Refused(10, 8)),
+    ("010300 0200010001 040001 ffffffff 00000001 00", Refused(10, 8)),
+    // a row's predecessor: any node below n but its own, listed or not
+    ("010300 0301 00000001 01 00000003 00", Refused(11, 3)),
+    ("010300 0301 00000001 02 00000003 00", Image("010300 0301 00000001 02 00000003 00")),
+    ("010300 0301 00000001 03 00000003 00", Refused(11, 3)),
+    ("010300 0301 00000001 ff 00000003 00", Refused(11, 3)),
+    ("010302 0301 00000001 02 00000002 00", Image("010302 0301 00000001 02 00000002 00")),
+    // a row's list: its own bit, and bits below n
+    ("010300 0301 00000001 00 00000000 00", Refused(12, 3)),
+    ("010300 0301 00000001 00 00000005 00", Refused(12, 3)),
+    ("010300 0301 00000001 00 00000002 00", Image("010300 0301 00000001 00 00000002 00")),
+    ("010300 0301 00000001 00 00000007 00", Image("010300 0301 00000001 00 00000007 00")),
+    ("010300 0301 00000001 00 0000000b 00", Refused(12, 3)),
+    ("010300 0301 00000001 00 80000003 00", Refused(12, 3)),
+    // a report's list: the sender's bit, not the receiver's, and bits below n
+    ("010300 0200010001 040001 00000000 00000000 00", Refused(12, 8)),
+    ("010300 0200010001 040001 00000000 00000006 00", Refused(12, 8)),
+    ("010300 0200010001 040001 00000000 00000007 00", Image("010300 0200010001 040001 00000000 00000007 00")),
+    ("010300 0200010001 040001 00000000 00000009 00", Refused(12, 8)),
+    ("010300 0200010001 040001 00000000 80000001 00", Refused(12, 8)),
+    // 31 nodes: node 31 and its bit are not there; 32 nodes: no bit is beyond
+    ("011f00 031e 00000001 1f 40000000 00", Refused(11, 3)),
+    ("011f00 031e 00000001 00 c0000000 00", Refused(12, 3)),
+    ("012000 031e 00000001 1f ffffffff 00", Image("012000 031e 00000001 1f ffffffff 00")),
+    ("012000 031e 00000001 20 ffffffff 00", Refused(11, 3)),
+    ("012000 031f 00000001 00 80000000 00", Image("012000 031f 00000001 00 80000000 00")),
+    ("012000 031f 00000001 00 7fffffff 00", Refused(12, 3)),
+    ("012000 021f000001 041f00 00000001 80000000 00", Image("012000 021f000001 041f00 00000001 80000000 00")),
+    ("012000 021f000001 041f00 00000001 7fffffff 00", Refused(12, 8)),
+    // a row with several faults: 1, 3, 5, 10, 11, 12
+    ("010300 0300 00000000 00 000000", Refused(1, 3)),
+    ("010300 0303 00000000 03 00000000 00", Refused(3, 3)),
+    ("010300 0300 00000000 01 00000001 00", Refused(5, 3)),
+    ("010300 0300 00000001 00 00000001 00", Refused(5, 3)),
+    ("010300 0300 00000001 01 00000002 00", Refused(5, 3)),
+    ("010300 0300 001effe2 03 00000008 00", Refused(5, 3)),
+    ("010300 0301 00000000 01 00000003 00", Refused(10, 3)),
+    ("010300 0301 001effe2 00 00000001 00", Refused(10, 3)),
+    ("010300 0301 001effe2 03 0000000a 00", Refused(10, 3)),
+    ("010300 0301 00000001 01 00000001 00", Refused(11, 3)),
+    ("010300 0301 00000001 03 0000000a 00", Refused(11, 3)),
+    // a report with several faults: 1, 3, 5, 10, 12
+    ("010300 040001 ffffffff 000000", Refused(1, 3)),
+    ("010300 040101 ffffffff 00000000 00", Refused(3, 3)),
+    ("010300 040001 001effe2 00000001 00", Refused(5, 3)),
+    ("010300 040001 00000000 00000002 00", Refused(5, 3)),
+    ("010300 040001 001effe2 00000008 00", Refused(5, 3)),
+    ("010300 0200010001 040001 001effe2 00000002 00", Refused(10, 8)),
+    ("010300 0200010001 040001 ffffffff 00000009 00", Refused(10, 8)),
+    // two records with a fault: the first
+    ("010300 0301 00000001 00 00000001 0302 00000000 00 00000004 00", Refused(12, 3)),
 ];
 
 /// Marks on the four-node field, as words and their bits, and the number that refuses them at place 44.

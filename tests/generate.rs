@@ -259,10 +259,12 @@ pub fn run(random: &mut Random, nodes: u8, events: usize) -> Made {
     made
 }
 
-/// Sets one to three fields of one record to values at and around their limits.
+/// Sets one to three fields of one record to values at and around their limits. Half the time it is a row or a report, the one as often as the other.
 pub fn wrong_fields(random: &mut Random, made: &Made) -> Vec<u8> {
     let mut made = made.clone();
-    let chosen = random.below(made.records.len());
+    let kind = random.pick(&[3, 4]);
+    let of_kind: Vec<usize> = (0..made.records.len()).filter(|&at| made.records[at][0] == kind).collect();
+    let chosen = if of_kind.is_empty() || random.once_in(2) { random.below(made.records.len()) } else { random.pick(&of_kind) };
     let (nodes, origin) = (made.nodes, made.origin);
     let beyond = if nodes < 32 { 1u32 << nodes } else { 0 };
     let record = &mut made.records[chosen];
@@ -285,6 +287,7 @@ pub fn wrong_fields(random: &mut Random, made: &Made) -> Vec<u8> {
                 let cost: u16 = random.pick(&[0, 1, 65_535]);
                 put(record, 3, &cost.to_be_bytes());
             }
+            (3 | 4, 3) if record.len() == 11 && random.once_in(2) => record[7 + random.below(4)] ^= 1 << random.below(8),
             (3, 0) => put(record, 1, &[node]),
             (3, 1) => put(record, 2, &label.to_be_bytes()),
             (3, 2) => {
