@@ -19,14 +19,18 @@ MOST_SHOWN = 10
 PATTERN = bytes((37 * i + 11) % 256 for i in range(17_000))
 # The numbers that each call can give.
 NUMBERS = {
-    "open": {0, 1, 2, 3, 4, 5},
-    "run": {0, 1, 2, 3, 4, 5, 7},
+    "open": {0, 1, 2, 3, 4, 5, 10, 11, 12},
+    "run": {0, 1, 2, 3, 4, 5, 7, 10, 11, 12},
     "image": {0, 6},
     "route": {0, 3, 6, 8, 9},
     "change": {0, 3},
     "grade": {0, 3},
     "round": {0, 1, 3, 7},
+    "place_row": {0, 3, 5, 10, 11, 12},
+    "place_report": {0, 3, 5, 10, 12},
 }
+# The largest of them.
+MOST_NUMBER = 12
 
 
 class Library:
@@ -56,15 +60,14 @@ class Library:
         kept = min(length, room)
         return number, length, self.out.raw[:kept], self.out.raw[kept:] == PATTERN[kept:]
 
-    def change(self, *numbers):
-        return self.calls.bench_change(self.net, *map(ctypes.c_uint32, numbers)) & 255
-
-    def grade(self, *numbers):
-        return self.calls.bench_grade(self.net, *map(ctypes.c_uint32, numbers)) & 255
-
-    def round(self, words):
-        marks = (ctypes.c_uint32 * len(words))(*words)
-        return self.calls.bench_round(self.net, marks, ctypes.c_uint64(len(words))) & 255
+    def called(self, name, arguments):
+        """A call on the network in self.net, with numbers or with a list of words: the number."""
+        if name == "round":
+            (words,) = arguments
+            lent = (ctypes.c_uint32 * len(words))(*words), ctypes.c_uint64(len(words))
+        else:
+            lent = map(ctypes.c_uint32, arguments)
+        return getattr(self.calls, "bench_" + name)(self.net, *lent) & 255
 
 
 class Comparison:
@@ -73,7 +76,7 @@ class Comparison:
         self.rng = rng
         self.cases = 0
         self.differences = 0
-        self.seen = {name: [0] * 10 for name in NUMBERS}
+        self.seen = {name: [0] * (MOST_NUMBER + 1) for name in NUMBERS}
 
     def same(self, name, number, case, ours, theirs):
         self.cases += 1
@@ -126,30 +129,36 @@ class Comparison:
                 self.route(network, node, room)
 
     def call(self, name, network, *arguments):
-        """A change, a grade or a round on the network that the library holds: refused, every word of it has to stay."""
+        """A change, a grade, a round, a row or a report on the network that the library holds: refused, every word of it has to stay."""
         before = self.library.network()
         case = f"network {reader.image(network).hex()} {name} {arguments}"
         number = getattr(reader, name)(network, *arguments)
-        theirs = getattr(self.library, name)(*arguments)
+        theirs = self.library.called(name, arguments)
         kept = number == 0 or self.library.network() == before
         self.net(name, number, case, network, (number, True), (theirs, kept))
 
     def calls(self, network):
-        """Changes, grades and rounds with numbers in and out of range."""
+        """Changes, grades, rounds, rows and reports with numbers in and out of range."""
         rng = self.rng
-        for _ in range(6):
-            kind = rng.randrange(3)
+        for _ in range(10):
+            kind = rng.randrange(5)
             if kind == 0:
                 cost = rng.choice([0, 0, 1, 65535, rng.randrange(65536), rng.choice([65536, 2**32 - 1])])
                 self.call("change", network, *any_pair(rng, network), cost)
             elif kind == 1:
                 value = rng.choice([0, 1, 15, rng.randrange(16), rng.choice([16, 255, 256, 2**32 - 1])])
                 self.call("grade", network, *any_pair(rng, network), value)
-            else:
+            elif kind == 2:
                 words = some_marks(rng, network)
                 if rng.random() < 0.2:
                     words = (words * 2)[: rng.choice([0, 1, 31, 33, 64])]
                 self.call("round", network, words)
+            elif kind == 3:
+                node, predecessor = rng.randrange(network.n + 1), rng.randrange(network.n + 1)
+                self.call("place_row", network, node, any_label(rng), predecessor, any_list(rng, network, node))
+            else:
+                sender, receiver = any_pair(rng, network)
+                self.call("place_report", network, sender, receiver, any_label(rng), any_list(rng, network, sender))
 
 
 def shown(values):
@@ -275,14 +284,19 @@ def kind_changed(rng, network, image):
     return image[:at] + bytes([rng.choice([0, 1, 2, 3, 4, 5, 6, 7, 8, 255])]) + image[at + 1 :]
 
 
-def field_changed(rng, network, image):
+def odd_label(rng):
+    return rng.choice([0, 1, reader.MOST_LABEL, reader.MOST_LABEL + 1, 65536, 2**32 - 1])
+
+
+def odd_list(rng, network, nodes, node):
+    """Another list: none, without the node's bit, with a bit changed, with the bit after the last node's, all."""
+    return rng.choice([0, nodes ^ 1 << node % 32, nodes ^ 1 << rng.randrange(32), nodes | 1 << network.n % 32, 2**32 - 1])
+
+
+def change_field(rng, network, record):
     """A field of a record set to a value at or past its limit."""
-    records = split(image)
-    k = rng.randrange(len(records))
-    record = bytearray(records[k])
     kind = record[0]
     node = [network.n - 1, network.n, 255, network.origin, rng.randrange(256)]
-    label = [0, 1, reader.MOST_LABEL, reader.MOST_LABEL + 1, 65536, 2**32 - 1]
     if kind == reader.HEADER:
         record[1:3] = rng.choice([[0, 0], [33, 0], [32, 31], [32, 32], [network.n, network.n], [255, 0], [1, 0]])
     elif kind == reader.ARC:
@@ -291,22 +305,30 @@ def field_changed(rng, network, image):
             record[3:5] = rng.choice([0, 1, 256, 65535]).to_bytes(2, "big")
         else:
             record[1 + field % 2] = rng.choice(node + [record[2 - field % 2]])
-    elif kind in (reader.ROW, reader.REPORT):
+    else:
         field = rng.randrange(4)
         label_at = 2 if kind == reader.ROW else 3
-        nodes = int.from_bytes(record[7:11], "big")
         if field == 0:
             record[1] = rng.choice(node + [record[2]])
         elif field == 1:
-            record[label_at : label_at + 4] = rng.choice(label).to_bytes(4, "big")
+            record[label_at : label_at + 4] = odd_label(rng).to_bytes(4, "big")
         elif field == 2:
             at = 6 if kind == reader.ROW else 2
             record[at] = rng.choice(node + [record[1]])
         else:
-            nodes = rng.choice([0, nodes ^ 1 << record[1] % 32, nodes ^ 1 << rng.randrange(32), nodes | 1 << network.n % 32, 2**32 - 1])
-            record[7:11] = nodes.to_bytes(4, "big")
+            record[7:11] = odd_list(rng, network, int.from_bytes(record[7:11], "big"), record[1]).to_bytes(4, "big")
+
+
+def field_changed(rng, network, image):
+    """One to three fields of a record set to values at or past their limits; each kind of record as often."""
+    records = split(image)[:-1]
+    kind = rng.choice(sorted({record[0] for record in records}))
+    k = rng.choice([k for k, record in enumerate(records) if record[0] == kind])
+    record = bytearray(records[k])
+    for _ in range(rng.choice([1, 1, 2, 3])):
+        change_field(rng, network, record)
     records[k] = bytes(record)
-    return b"".join(records)
+    return b"".join(records) + image[-1:]
 
 
 def tail(rng, network, image):
@@ -381,6 +403,15 @@ def any_pair(rng, network):
     if network.cost and rng.random() < 0.6:
         return rng.choice(list(network.cost))
     return pair_in_range(rng, network)
+
+
+def any_label(rng):
+    return rng.choice([5, 5, 5, odd_label(rng)])
+
+
+def any_list(rng, network, node):
+    nodes = some_list(rng, network.n, node % 32)
+    return rng.choice([nodes, nodes, nodes, odd_list(rng, network, nodes, node)])
 
 
 def some_marks(rng, network):
@@ -488,6 +519,41 @@ def equal_cases(compare):
             compare.call("round", network, [0] * 32)
 
 
+def edges(n, nodes):
+    """Rows and reports of n nodes with every field at and past its limits, in every way together; nodes are the numbers that stand for a node."""
+    most = 2**32 - 1
+    labels = 0, 1, reader.MOST_LABEL, reader.MOST_LABEL + 1, most
+    rows, reports = [], []
+    for node in nodes:
+        own, beyond = reader.bit(node % 32), reader.bit(n % 32)
+        lists = sorted({own, own | reader.bit(n - 1), own | beyond, own | reader.bit(31), beyond, most, most ^ own, 0})
+        rows += itertools.product([node], labels, nodes, lists)
+        reports += itertools.product([node], nodes, labels, lists)
+    return rows, reports
+
+
+def placing_cases(compare):
+    """Rows and reports at the edges as the last record of an image, with a round after it, below the record before, and as calls."""
+    for n in (2, 3, 31, 32):
+        origin = n // 2
+        network = reader.Network(n, origin)
+        network.cost = {(s, r): 5 for s, r in ((0, origin), (origin, n - 1), (n - 1, origin)) if s != r}
+        image = reader.image(network)
+        sender, receiver = max(network.cost)
+        last = reader.report_record(sender, receiver, 0, reader.bit(sender))
+        nodes = sorted({0, origin, n - 1, n})
+        for make, cases in zip((reader.row_record, reader.report_record), edges(n, [*nodes, 255])):
+            for case in cases:
+                record = make(*case)
+                compare.open(image[:-1] + record + image[-1:])
+                compare.run(image[:-1] + record + image[-1:] + b"\6")
+                compare.open(image[:-1] + last + record + image[-1:])
+        for name, cases in zip(("place_row", "place_report"), edges(n, [*nodes, 256, 2**32 - 1])):
+            _, opened = compare.open(image)
+            for case in cases:
+                compare.call(name, opened, *case)
+
+
 def full_cases(compare, count):
     """Networks of 32 nodes with every arc, row and report, damaged too, and inputs longer than any image."""
     rng = compare.rng
@@ -499,6 +565,7 @@ def full_cases(compare, count):
         compare.outputs(network)
         for _ in range(4):
             compare.open(damaged(rng, network, image))
+            compare.open(field_changed(rng, network, image))
         _, now = compare.run(image + b"\6" * 2)
         compare.outputs(now)
         compare.run(some_run(rng, network, image))
@@ -543,12 +610,13 @@ def main(arguments):
     compare = Comparison(Library(library), random.Random(seed))
     fixed_cases(compare)
     equal_cases(compare)
+    placing_cases(compare)
     full_cases(compare, 1 + count // 10_000)
     random_cases(compare, count)
-    print("call      cases" + "".join(f"{number:8}" for number in range(10)))
+    print("call              cases" + "".join(f"{number:8}" for number in range(MOST_NUMBER + 1)))
     missing = []
     for name, seen in compare.seen.items():
-        print(f"{name:8}{sum(seen):7}" + "".join(f"{times:8}" for times in seen))
+        print(f"{name:16}{sum(seen):7}" + "".join(f"{times:8}" for times in seen))
         missing += [f"{name} {number}" for number in sorted(NUMBERS[name]) if seen[number] == 0]
     if missing:
         print("not seen: " + ", ".join(missing))
