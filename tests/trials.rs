@@ -315,6 +315,24 @@ fn list(seed: Seed, n: u32, node: u32) -> u32 {
     some & (u32::MAX >> (MOST_NODES - n)) | bit(node)
 }
 
+/// Labels out of their limits; the first only for a row.
+const WRONG_LABELS: [u32; 3] = [0, MOST_LABEL + 1, u32::MAX];
+
+/// A list without the node, or with a bit not below n.
+fn wrong_list(seed: Seed, n: u32, node: u32) -> u32 {
+    let right = list(seed, n, node);
+    if n < MOST_NODES && seed.chance(6, 32) {
+        right | bit(n + seed.pick(7, MOST_NODES - n))
+    } else {
+        right & !bit(node)
+    }
+}
+
+/// Whether there is a fault of this number, where the first is given: those after it come by chance.
+fn faulty(seed: Seed, first: u64, number: u64) -> bool {
+    number == first || first < number && seed.chance(number, 32)
+}
+
 // ---- a field
 
 /// What a field is made of, and whether its differences are told.
@@ -610,34 +628,38 @@ impl Trial<'_> {
         self.counts.refused += tally;
     }
 
-    /// A row with a fault of form: 5.
+    /// A row with a fault: a node not below n is 3, the origin 5, a wrong label 10, a wrong predecessor 11, a wrong list 12; the first of several decides.
     fn refuse_row(&mut self, seed: Seed) {
         let (n, origin) = (self.field.nodes, self.field.origin);
-        let relay = seed.other(2, n, origin);
-        let (y, label, from, listed) = match seed.pick(1, 6) {
-            0 => (origin, 5, origin, relay),
-            1 => (relay, 0, origin, relay),
-            2 => (relay, MOST_LABEL + 1, origin, relay),
-            3 => (relay, 5, n, relay),
-            4 => (relay, 5, relay, relay),
-            _ => (relay, 5, origin, origin),
+        let first = [3, 5, 10, 11, 12][seed.pick(1, 5) as usize];
+        let y = match first {
+            3 => n + seed.pick(2, 40),
+            5 => origin,
+            _ => seed.other(2, n, origin),
         };
-        let tally = self.refused(5, |net| net.place_row(y, label, from, bit(listed)));
+        let own = seed.part(3);
+        let label = if faulty(seed, first, 10) { WRONG_LABELS[seed.pick(4, 3) as usize] } else { label(own) };
+        let from = if faulty(seed, first, 11) { [y, n, u32::MAX][seed.pick(5, 3) as usize] } else { seed.other(5, n, y) };
+        let list = if faulty(seed, first, 12) { wrong_list(own, n, y % n) } else { list(own, n, y % n) };
+        let tally = self.refused(first, |net| net.place_row(y, label, from, list));
         self.counts.refused += tally;
     }
 
-    /// A report without an arc, or over one with a fault of form: 5 too.
+    /// A report with a fault: a pair of one node is 3, no arc 5, a wrong label 10, a wrong list 12; the first of several decides.
     fn refuse_report(&mut self, seed: Seed) {
-        let s = seed.pick(1, self.field.nodes);
-        let r = seed.other(2, self.field.nodes, s);
-        let (label, listed) = if self.costs.get(s, r) == 0 {
-            (5, s)
-        } else if seed.chance(3, 32) {
-            (MOST_LABEL + 1, s)
-        } else {
-            (5, r)
+        let n = self.field.nodes;
+        let s = seed.pick(1, n);
+        let r = if seed.chance(3, 8) { s } else { seed.other(2, n, s) };
+        let first = match self.costs.get(s, r) {
+            _ if s == r => 3,
+            0 => 5,
+            _ if seed.chance(4, 32) => 10,
+            _ => 12,
         };
-        let tally = self.refused(5, |net| net.place_report(s, r, label, bit(listed)));
+        let own = seed.part(5);
+        let label = if faulty(seed, first, 10) { WRONG_LABELS[1 + seed.pick(6, 2) as usize] } else { label(own) };
+        let list = if faulty(seed, first, 12) { wrong_list(own, n, s) } else { list(own, n, s) };
+        let tally = self.refused(first, |net| net.place_report(s, r, label, list));
         self.counts.refused += tally;
     }
 
