@@ -1,8 +1,8 @@
 /*
  * Microseconds to a call, the proved one beside the plain C one: rounds, opening, image writing, runs and the C call; and how a round grows with
  * the number of nodes. Each line measures the two sides in turn, a few dozen microseconds each, and takes the least of many such turns, so that other
- * load meets both alike and leaves some turns alone. Before and after each line both sides are held to the same network and the same answers; the
- * exit status is not 0 where they differ.
+ * load meets both alike and leaves some turns alone. Before and after each line both sides are held to the same network and the same answers, and at
+ * the end to the same answers for damaged images; the exit status is not 0 where they differ.
  */
 #include <stdio.h>
 #include <string.h>
@@ -298,11 +298,34 @@ static void file_lines(void)
     file_line("run, 1000000 full rounds", 4, LONG_TURNS, 1, proved_run, plain_ran);
 }
 
+/* the image of the field after its run with every value of every byte, alone and with another byte changed: all numbers of opening come up */
+static void damaged_images(void)
+{
+    static uint8_t image[GERQALLI_MAX_IMAGE];
+    uint32_t numbers = 0;
+    int alike = 1;
+    plain_run(&plain, field, sizeof field, &plain_answer[2]);
+    plain_image(&plain, image, sizeof image, &size);
+    for (uint64_t at = 0; at < size; at++)
+        for (int value = 0; value < 256; value++)
+            for (int two = 0; two < 2; two++) {
+                memcpy(file, image, size);
+                if (two)
+                    file[next() % size] = (uint8_t)next();
+                file[at] = (uint8_t)value;
+                alike &= same_files(proved_open, plain_opened);
+                numbers |= 1u << plain_open(&plain, file, size, &plain_answer[2]).number;
+            }
+    held(alike, "open, damaged image");
+    held(numbers == (0x3f | 7u << 10), "numbers of damaged images");
+}
+
 int main(void)
 {
     title("microseconds");
     round_lines();
     file_lines();
     growth_lines();
+    damaged_images();
     return bad;
 }

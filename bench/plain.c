@@ -181,8 +181,14 @@ static int row_record(struct plain_net *x, const uint8_t *b, uint32_t *next)
     uint32_t rank = 1024 + y;
     if (rank < *next)
         return 4;
-    if (y == x->origin || label == 0 || label > MAX_LABEL || from >= x->n || from == y || (list & ~all_nodes(x->n)) || !(list >> y & 1))
+    if (y == x->origin)
         return 5;
+    if (label == 0 || label > MAX_LABEL)
+        return 10;
+    if (from >= x->n || from == y)
+        return 11;
+    if ((list & ~all_nodes(x->n)) || !(list >> y & 1))
+        return 12;
     *next = rank + 1;
     x->row_label[y] = label;
     x->row_from[y] = from;
@@ -198,8 +204,12 @@ static int report_record(struct plain_net *x, const uint8_t *b, uint32_t *next)
     uint32_t rank = 1056 + s * 32 + r;
     if (rank < *next)
         return 4;
-    if (label > MAX_LABEL || (list & ~all_nodes(x->n)) || !(list >> s & 1) || x->cost[r][s] == 0)
+    if (x->cost[r][s] == 0)
         return 5;
+    if (label > MAX_LABEL)
+        return 10;
+    if ((list & ~all_nodes(x->n)) || !(list >> s & 1))
+        return 12;
     *next = rank + 1;
     x->held_label[r][s] = label;
     x->held_list[r][s] = list;

@@ -1,4 +1,4 @@
-/* A plain C version of the rules of document 01 and change request One, written by hand to measure the proved one against. */
+/* A plain C version of the rules of document 01 and change requests One and Two, written by hand to measure the proved one against. */
 #ifndef PLAIN_H
 #define PLAIN_H
 #include <stdint.h>
