@@ -4,8 +4,8 @@
 ghost use mathlib.Core.Path.{_≡_};
 ghost use mathlib.Core.Bool.{cond};
 ghost use Prim.Native.Nat.{_^_};
-ghost use lib.Dec.{leb};
-ghost use Rattle.network.specs.Faults.{pairFault, rowLabelFault, reportLabelFault, predecessorFault, listFault, firstOf, rowFormNumber, reportFormNumber};
+ghost use lib.Dec.{ltb, leb};
+ghost use Rattle.network.specs.Faults.{maxLabel, pairFault, listFault, rowFormNumber, reportFormNumber};
 ghost use Rattle.network.specs.Change.{gradeCost};
 
 // The cost of each grade; grade 0 removes the arc.
@@ -51,85 +51,59 @@ pub fn bit_beyond(n: u32, list: u32) -> bool
     list >> n != 0
 }
 
-// The number where the test holds, else 0.
-fn number_if(test: bool, number: u8) -> u8
-    ensures { λ k. ⌜ k ≡ cond test number 0 ⌝ }
-{
-    if test {
-        return number;
-    }
-    0
-}
-
-// The first of two numbers that is not 0.
-fn first_of(a: u8, b: u8) -> u8
-    ensures { λ k. ⌜ k ≡ firstOf a b ⌝ }
-{
-    if a == 0 {
-        return b;
-    }
-    a
-}
-
-// 10 for a row's label of 0 or above the largest.
-fn row_label_fault(label: u32) -> u8
-    ensures { λ k. ⌜ k ≡ cond (rowLabelFault label) 10 0 ⌝ }
-{
-    if label == 0 {
-        return 10;
-    }
-    report_label_fault(label)
-}
-
-// 10 for a report's label above the largest.
-fn report_label_fault(label: u32) -> u8
-    ensures { λ k. ⌜ k ≡ cond (reportLabelFault label) 10 0 ⌝ }
-{
-    number_if(network::MAX_LABEL < label, 10)
-}
-
-// 11 for a predecessor not below n, or the node itself.
-fn predecessor_fault(n: u32, node: u32, predecessor: u32) -> u8
-    ensures { λ k. ⌜ k ≡ cond (predecessorFault n node predecessor) 11 0 ⌝ }
-{
-    if n <= predecessor {
-        return 11;
-    }
-    number_if(predecessor == node, 11)
-}
-
-// 12 for a list with a bit not below n, or without the node's.
+// The number of a list among n nodes: 12 for a bit not below n or without the node's, else 0.
 fn list_fault(n: u32, node: u32, list: u32) -> u8
     ensures { λ k. ⌜ k ≡ cond (listFault n node list) 12 0 ⌝ }
 {
     if bit_beyond(n, list) {
         return 12;
     }
-    number_if(!ancestors::listed(list, node), 12)
+    if ancestors::listed(list, node) {
+        return 0;
+    }
+    12
+}
+
+// Whether a label is above the largest.
+fn label_above(label: u32) -> bool
+    ensures { λ b. ⌜ b ≡ ltb maxLabel label ⌝ }
+{
+    network::MAX_LABEL < label
 }
 
 // The number of a relay's row among n nodes: 5 for a row for the origin, then 10 for its label, 11 for its predecessor, 12 for its list, else 0.
 pub fn row_fault(n: u32, origin: u32, node: u32, label: u32, predecessor: u32, list: u32) -> u8
     ensures { λ k. ⌜ k ≡ rowFormNumber n origin node label predecessor list ⌝ }
 {
-    let of_origin = number_if(node == origin, 5);
-    let of_label = row_label_fault(label);
-    let of_predecessor = predecessor_fault(n, node, predecessor);
-    let of_list = list_fault(n, node, list);
-    first_of(
-        of_origin,
-        first_of(of_label, first_of(of_predecessor, of_list)),
-    )
+    if node == origin {
+        return 5;
+    }
+    if label == 0 {
+        return 10;
+    }
+    if label_above(label) {
+        return 10;
+    }
+    if n <= predecessor {
+        return 11;
+    }
+    if predecessor == node {
+        return 11;
+    }
+    list_fault(n, node, list)
 }
 
 // The number of a report over an arc of this cost among n nodes: 5 for a pair without an arc, then 10 for its label, 12 for its list, else 0.
 pub fn report_fault(n: u32, cost: u32, sender: u32, label: u32, list: u32) -> u8
     ensures { λ k. ⌜ k ≡ reportFormNumber n cost sender label list ⌝ }
 {
-    let of_arc = number_if(cost == 0, 5);
-    let of_label = report_label_fault(label);
-    let of_list = list_fault(n, sender, list);
-    first_of(of_arc, first_of(of_label, of_list))
+    if cost == 0 {
+        return 5;
+    }
+    if label_above(label) {
+        return 10;
+    }
+    list_fault(n, sender, list)
 }
 
 // The cost that a grade stands for; 0 above grade 15.

@@ -5,7 +5,7 @@ use mathlib.Core.Bool.{Bool, true, false, cond, not, _&&_, _||_}
 use Prim.Native.Nat.{ℕ}
 use lib.Dec.{eqb}
 use borrow.Author.Tests.{eqb-true, eq-eqb, not-true}
-use Rattle.network.specs.Faults.{nodeFault, pairFault, originFault, rowLabelFault, reportLabelFault, predecessorFault, listFault, arcFault, rowFault, reportFault, rowFormNumber, reportFormNumber, firstOf}
+use Rattle.network.specs.Faults.{nodeFault, pairFault, originFault, rowLabelFault, reportLabelFault, predecessorFault, listFault, arcFault, rowFault, reportFault, rowFormNumber, reportFormNumber}
 use Rattle.network.specs.Network.{Net}
 use Rattle.network.specs.Placing.{placeRowNumber, placeReportNumber}
 use Rattle.network.specs.Form.{RowNumbered, ReportNumbered, asBefore}
@@ -13,12 +13,12 @@ use Rattle.network.specs.Form.{RowNumbered, ReportNumbered, asBefore}
 -- ---- of four tests or three, the number of the first that holds
 
 abbrev four : Bool → Bool → Bool → Bool → ℕ
-four a b c d = firstOf (cond a 5 0) (firstOf (cond b 10 0) (firstOf (cond c 11 0) (cond d 12 0)))
+four a b c d = cond a 5 (cond b 10 (cond c 11 (cond d 12 0)))
 
 four-tests : (a b c d : Bool) → (eqb (four a b c d) 5 ≡ a) × (eqb (four a b c d) 10 ≡ (not a && b)) × (eqb (four a b c d) 11 ≡ (not (a || b) && c)) ×
     (eqb (four a b c d) 12 ≡ (not (a || (b || c)) && d)) × (eqb (four a b c d) 0 ≡ not (a || (b || (c || d)))) ×
     (asBefore (four a b c d) ≡ cond (a || (b || (c || d))) 5 0)
-unfolding asBefore firstOf
+unfolding asBefore
 four-tests true b c d = (refl, refl, refl, refl, refl, refl)
 four-tests false true c d = (refl, refl, refl, refl, refl, refl)
 four-tests false false true d = (refl, refl, refl, refl, refl, refl)
@@ -26,11 +26,11 @@ four-tests false false false true = (refl, refl, refl, refl, refl, refl)
 four-tests false false false false = (refl, refl, refl, refl, refl, refl)
 
 abbrev three : Bool → Bool → Bool → ℕ
-three a b d = firstOf (cond a 5 0) (firstOf (cond b 10 0) (cond d 12 0))
+three a b d = cond a 5 (cond b 10 (cond d 12 0))
 
 three-tests : (a b d : Bool) → (eqb (three a b d) 5 ≡ a) × (eqb (three a b d) 10 ≡ (not a && b)) × (eqb (three a b d) 12 ≡ (not (a || b) && d)) ×
     (eqb (three a b d) 0 ≡ not (a || (b || d))) × (asBefore (three a b d) ≡ cond (a || (b || d)) 5 0)
-unfolding asBefore firstOf
+unfolding asBefore
 three-tests true b d = (refl, refl, refl, refl, refl)
 three-tests false true d = (refl, refl, refl, refl, refl)
 three-tests false false true = (refl, refl, refl, refl, refl)

@@ -37,16 +37,16 @@ pub place-row-most : (x : Net) (y d p l : ℕ) → placeRowNumber x y d p l ≤ 
 unfolding placeRowNumber rowFormNumber
 place-row-most x y d p l =
     cond-most (nodeFault (x .nodes) y) 3 _ (omega arith)
-    (first-most _ _ (test-most (originFault (x .origin) y) 5 (omega arith))
-    (first-most _ _ (test-most (rowLabelFault d) 10 (omega arith))
-    (first-most _ _ (test-most (predecessorFault (x .nodes) y p) 11 (omega arith)) (test-most (listFault (x .nodes) y l) 12 (omega arith)))))
+    (cond-most (originFault (x .origin) y) 5 _ (omega arith)
+    (cond-most (rowLabelFault d) 10 _ (omega arith)
+    (cond-most (predecessorFault (x .nodes) y p) 11 _ (omega arith) (test-most (listFault (x .nodes) y l) 12 (omega arith)))))
 
 pub place-report-most : (x : Net) (s r d l : ℕ) → placeReportNumber x s r d l ≤ maxRefusal
 unfolding placeReportNumber reportFormNumber
 place-report-most x s r d l =
     cond-most (pairFault (x .nodes) s r) 3 _ (omega arith)
-    (first-most _ _ (test-most (arcFault (x .cost s r)) 5 (omega arith))
-    (first-most _ _ (test-most (reportLabelFault d) 10 (omega arith)) (test-most (listFault (x .nodes) s l) 12 (omega arith))))
+    (cond-most (arcFault (x .cost s r)) 5 _ (omega arith)
+    (cond-most (reportLabelFault d) 10 _ (omega arith) (test-most (listFault (x .nodes) s l) 12 (omega arith))))
 
 pub round-most : (x : Net) (ms : List ℕ) → roundNumber x ms ≤ maxRefusal
 unfolding roundNumber

@@ -88,16 +88,15 @@ reportFault n c s d l = arcFault c || (reportLabelFault d || listFault n s l)
 
 -- ---- order
 
--- the first of two numbers that is not 0
-unfoldable pub firstOf : ℕ → ℕ → ℕ
-firstOf a b = cond (eqb a 0) b a
-
 -- the number of a row: 5, then 10, then 11, then 12
 unfoldable pub rowFormNumber : ℕ → ℕ → ℕ → ℕ → ℕ → ℕ → ℕ
 rowFormNumber n origin y d p l =
-    firstOf (cond (originFault origin y) 5 0)
-    (firstOf (cond (rowLabelFault d) 10 0) (firstOf (cond (predecessorFault n y p) 11 0) (cond (listFault n y l) 12 0)))
+    cond (originFault origin y) 5 (cond (rowLabelFault d) 10 (cond (predecessorFault n y p) 11 (cond (listFault n y l) 12 0)))
 
 -- the number of a report: 5, then 10, then 12
 unfoldable pub reportFormNumber : ℕ → ℕ → ℕ → ℕ → ℕ → ℕ
-reportFormNumber n c s d l = firstOf (cond (arcFault c) 5 0) (firstOf (cond (reportLabelFault d) 10 0) (cond (listFault n s l) 12 0))
+reportFormNumber n c s d l = cond (arcFault c) 5 (cond (reportLabelFault d) 10 (cond (listFault n s l) 12 0))
+
+-- the first of two numbers that is not 0
+unfoldable pub firstOf : ℕ → ℕ → ℕ
+firstOf a b = cond (eqb a 0) b a

@@ -9,7 +9,7 @@ use native.Mathlib.Omega.{arith}
 use lib.Count.{ones}
 use lib.ListN.{replicate}
 use Rattle.ancestors.specs.Ancestors.{has, put}
-use Rattle.network.specs.Faults.{sizeFault, nodeFault, pairFault, costFault, originFault, rowLabelFault, predecessorFault, listFault, firstOf, rowFormNumber}
+use Rattle.network.specs.Faults.{sizeFault, nodeFault, pairFault, costFault, originFault, rowLabelFault, predecessorFault, listFault, rowFormNumber}
 use Rattle.network.specs.Network.{none, Net, setAt, setPair, withCost, withRow, withHeld, outcome, freshNet, freshNumber, freshOf, Within}
 use Rattle.network.specs.Placing.{placeRowNumber, placeRowOf}
 use Rattle.network.specs.Round.{report, hear, offer, listOf, goesBefore, against, winner, rowBy, choice, renewTo, renew, marked, some, strayMark, idleMark, roundNumber, roundOf, everyArc, fullRoundOf, round as playRound}
@@ -68,7 +68,7 @@ record Facts (x : Net) (stretch : List Call) (y k d : ℕ) : Type 0 where
   walk : Walk (atEnd x [] stretch .cost) (atEnd x [] stretch .origin) y k d
 
 chain-facts : Facts falseChain chainStretch 3 3 1002
-unfolding falseChain chainStretch has put ones sizeFault nodeFault pairFault costFault originFault rowLabelFault predecessorFault listFault firstOf
+unfolding falseChain chainStretch has put ones sizeFault nodeFault pairFault costFault originFault rowLabelFault predecessorFault listFault
     rowFormNumber setAt setPair withCost withRow withHeld outcome freshNet freshNumber freshOf placeRowNumber placeRowOf report hear offer listOf goesBefore
     against winner rowBy choice renewTo renew marked some strayMark idleMark roundNumber roundOf everyArc fullRoundOf playRound changed changeNumber
     changeOf called accepted after marksThen rounds still unheard missed settledFrom

@@ -8,7 +8,7 @@ use native.Mathlib.Omega.{arith}
 use lib.ListN.{length, replicate}
 use lib.Count.{ones}
 use Rattle.ancestors.specs.Ancestors.{has, put}
-use Rattle.network.specs.Faults.{sizeFault, nodeFault, pairFault, costFault, gradeFault, originFault, rowLabelFault, reportLabelFault, predecessorFault, listFault, arcFault, firstOf, rowFormNumber, reportFormNumber}
+use Rattle.network.specs.Faults.{sizeFault, nodeFault, pairFault, costFault, gradeFault, originFault, rowLabelFault, reportLabelFault, predecessorFault, listFault, arcFault, rowFormNumber, reportFormNumber}
 use Rattle.network.specs.Network.{via, Net, setAt, setPair, withCost, withRow, withHeld, outcome, freshNet, freshNumber, freshOf, Within}
 use Rattle.network.specs.Placing.{placeRowNumber, placeRowOf, placeReportNumber, placeReportOf}
 use Rattle.network.specs.Round.{report, hear, offer, listOf, goesBefore, against, winner, rowBy, choice, renewTo, renew, marked, some, strayMark, idleMark, roundNumber, roundOf, everyArc, fullRoundOf, round as playRound}
@@ -70,7 +70,7 @@ record Facts : Type 0 where
 
 facts : Facts
 unfolding exampleNet before stretch has put sizeFault nodeFault pairFault costFault gradeFault originFault rowLabelFault reportLabelFault
-    predecessorFault listFault arcFault firstOf rowFormNumber reportFormNumber setAt setPair withCost withRow withHeld outcome freshNet freshNumber
+    predecessorFault listFault arcFault rowFormNumber reportFormNumber setAt setPair withCost withRow withHeld outcome freshNet freshNumber
     freshOf placeRowNumber placeRowOf placeReportNumber placeReportOf ones report hear offer listOf goesBefore against winner rowBy choice renewTo
     renew marked some strayMark idleMark roundNumber roundOf everyArc fullRoundOf playRound changed changeNumber changeOf gradeCost
     gradeNumber gradeOf called accepted after marksThen rounds still unheard missed

@@ -10,7 +10,7 @@ use lib.Dec.{eqb}
 use lib.ListN.{replicate}
 use lib.Count.{ones}
 use Rattle.ancestors.specs.Ancestors.{has, put}
-use Rattle.network.specs.Faults.{sizeFault, pairFault, costFault, reportLabelFault, listFault, arcFault, firstOf, reportFormNumber}
+use Rattle.network.specs.Faults.{sizeFault, pairFault, costFault, reportLabelFault, listFault, arcFault, reportFormNumber}
 use Rattle.network.specs.Network.{via, Net, setPair, withCost, withHeld, outcome, freshNet, freshNumber, freshOf, Within}
 use Rattle.network.specs.Placing.{placeReportNumber, placeReportOf}
 use Rattle.network.specs.Round.{report, hear, offer, listOf, goesBefore, against, winner, rowBy, choice, renewTo, renew, marked, some, strayMark, idleMark, roundNumber, roundOf, round as playRound}
@@ -59,7 +59,7 @@ record Facts : Type 0 where
   row-two : atEnd chainNet [] stretch .row 2 ≡ via 9 1 7
 
 facts : Facts
-unfolding chainNet stretch has put sizeFault pairFault costFault reportLabelFault listFault arcFault firstOf reportFormNumber setPair withCost withHeld
+unfolding chainNet stretch has put sizeFault pairFault costFault reportLabelFault listFault arcFault reportFormNumber setPair withCost withHeld
     outcome freshNet freshNumber freshOf placeReportNumber placeReportOf ones report hear offer listOf goesBefore against winner rowBy choice renewTo
     renew marked some strayMark idleMark roundNumber roundOf playRound changed changeNumber changeOf called accepted after marksThen
     rounds still unheard missed

@@ -12,7 +12,22 @@ returns c = rw (← (c .before .bit-beyond .ensures), c .if1 .taken)
 returns-2 : tie.Need-returns-2
 unfolding listFault
 returns-2 c =
-    rw (← (c .before .before .before .bit-beyond .ensures), c .before .before .if1 .left, ← (c .before .listed .ensures)) (c .number-if .ensures)
+    rw (
+      ← (c .before .before .before .bit-beyond .ensures),
+      c .before .before .if1 .left,
+      ← (c .before .listed .ensures),
+      c .if2 .taken,
+    )
+
+returns-3 : tie.Need-returns-3
+unfolding listFault
+returns-3 c =
+    rw (
+      ← (c .before .before .before .bit-beyond .ensures),
+      c .before .before .if1 .left,
+      ← (c .before .listed .ensures),
+      c .if2 .left,
+    )
 
 pub list-fault-spec : {M : Type 1} → statement M
-list-fault-spec = tie.close (tie.spec (λ c κs. search needs) returns (λ c κs. search needs) (λ c κs. search needs) returns-2)
+list-fault-spec = tie.close (tie.spec (λ c κs. search needs) returns (λ c κs. search needs) returns-2 returns-3)
