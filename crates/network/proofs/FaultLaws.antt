@@ -80,7 +80,7 @@ pub grade-bad : (g : ℕ) → maxGrade < g → gradeFault g ≡ true
 unfolding gradeFault
 grade-bad g h = lt-ltb maxGrade g h
 
--- ---- 5, form
+-- ---- 5, 10, 11 and 12, form
 
 pub origin-says : (origin y : ℕ) → originFault origin y ≡ false → y ≢ origin
 unfolding originFault

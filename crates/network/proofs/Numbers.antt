@@ -13,7 +13,7 @@ use Rattle.network.specs.Placing.{placeRowNumber, placeReportNumber}
 use Rattle.network.specs.Change.{changeNumber}
 use Rattle.network.specs.Round.{marked, strayMark, idleMark, roundNumber}
 
--- of two numbers that are not above it, the one taken is not
+-- of two numbers not above `maxRefusal` the one taken is not above it
 cond-most : (t : Bool) (a b : ℕ) → a ≤ maxRefusal → b ≤ maxRefusal → cond t a b ≤ maxRefusal
 cond-most t a b f g = cond-by (λ k. k ≤ maxRefusal) t a b (λ _. f) (λ _. g)
 

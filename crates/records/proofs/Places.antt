@@ -8,7 +8,7 @@ use native.Mathlib.Omega.{arith}
 use lib.Dec.{eqb, ltb}
 use lib.ListN.{length, drop, length-drop}
 use Rattle.ancestors.proofs.Cases.{eq-or-ne, cond-by}
-use Rattle.network.specs.Faults.{maxRefusal, nodeFault, pairFault, firstOf}
+use Rattle.network.specs.Faults.{maxRefusal, nodeFault, pairFault}
 use Rattle.network.specs.Network.{Net, freshNet, freshNumber}
 use Rattle.network.proofs.Effects.{outcome-number, number-of, change-outcome, round-outcome, full-round-outcome}
 use Rattle.network.proofs.Numbers.{test-most, first-most, fresh-most, change-most, place-row-most, place-report-most, round-most}

@@ -9,9 +9,9 @@ use Rattle.network.specs.Network.{Net}
 use Rattle.records.specs.Opening.{rowRank, reportRank, orderNumber, rowNumber, reportNumber}
 
 pub record RefusedAsBefore : Type 0 where
-  -- a row: 3, then 4, then 5 for a fault of form
+  -- a row, before: 3, then 4, then 5 for a fault of form
   pub row : (x : Net) (next y d p l : ℕ) → asBefore (rowNumber x next y d p l) ≡
       firstOf (cond (nodeFault (x .nodes) y) 3 0) (firstOf (orderNumber next (rowRank y)) (cond (rowFault (x .nodes) (x .origin) y d p l) 5 0))
-  -- a report: 3, then 4, then 5 for a fault of form
+  -- a report, before: 3, then 4, then 5 for a fault of form
   pub report : (x : Net) (next s r d l : ℕ) → asBefore (reportNumber x next s r d l) ≡
       firstOf (cond (pairFault (x .nodes) s r) 3 0) (firstOf (orderNumber next (reportRank s r)) (cond (reportFault (x .nodes) (x .cost s r) s d l) 5 0))

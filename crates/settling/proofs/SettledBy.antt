@@ -5,7 +5,7 @@ use mathlib.Core.Bool.{false}
 use mathlib.Core.Logic.{_⊎_, inl, inr, _≢_}
 use Prim.Native.Nat.{ℕ, suc, _+_, _≤_}
 use native.Mathlib.Omega.{arith}
-use Rattle.ancestors.specs.Ancestors.{has, put, own, hops}
+use Rattle.ancestors.specs.Ancestors.{has, put, own}
 use Rattle.ancestors.proofs.Cases.{clash}
 use Rattle.network.specs.Network.{Row, root, via, told}
 use Rattle.network.specs.Round.{report}

@@ -7,7 +7,7 @@ use Prim.Native.Nat.{ℕ, suc, _+_, _*_, _-_, _<_, _≤_}
 use native.Mathlib.Omega.{arith}
 use native.Mathlib.Nat.{mul-le-mul-right}
 use lib.Count.{ones}
-use Rattle.ancestors.specs.Ancestors.{has, put}
+use Rattle.ancestors.specs.Ancestors.{put}
 use Rattle.ancestors.proofs.Cases.{eq-or-ne}
 use Rattle.network.specs.Network.{Row, via, told}
 use Rattle.network.specs.Round.{report}
