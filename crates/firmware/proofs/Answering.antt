@@ -6,7 +6,8 @@ use mathlib.Core.List.{List}
 use Prim.Native.Nat.{ℕ, _*_, _/_, _%_, _<_, _≤_}
 use native.Mathlib.Omega.{arith}
 use lib.ListN.{length, drop}
-use Rattle.network.specs.Faults.{maxRefusal}
+use Rattle.network.specs.Faults.{FileNumber, early}
+use Rattle.network.proofs.Numbers.{number-fits}
 use Rattle.ancestors.proofs.Cases.{eq-or-ne, le-or-lt}
 use Rattle.records.specs.Numbers.{Bytes}
 use Rattle.records.specs.Image.{image, maxImage}
@@ -21,10 +22,6 @@ use Rattle.settling.proofs.RunCalls.{run-within, run-settles}
 use Rattle.firmware.specs.Calling.{Called, maxRun, refusedAnswer, callOf, CallIs, refused, written}
 use Rattle.firmware.specs.Demand.{OpensPromised, CallSettles}
 use Rattle.firmware.proofs.Calling.{call-long, call-refused, call-short, call-written}
-
--- a number fits the five bits that it has in an answer
-pub number-fits : (number : ℕ) → number ≤ maxRefusal → number < 32
-number-fits number h = omega arith
 
 -- number and place of a refusal
 number-part : (number place : ℕ) → number < 32 → refusedAnswer number place % 32 ≡ number
@@ -43,7 +40,7 @@ length-part : (k : ℕ) → 32 * k / 32 ≡ k
 length-part k = omega arith
 
 module _ (run out : List ℕ) where
-  told : (number place : ℕ) → 0 < number → number ≤ maxRefusal → place ≤ length run → callOf run out ≡ record { answer = refusedAnswer number place; output = out }
+  told : (number place : ℕ) → 0 < number → FileNumber number → place ≤ length run → callOf run out ≡ record { answer = refusedAnswer number place; output = out }
       → CallIs run out (callOf run out)
   told number place a b p e =
       refused number place a b p (ap (λ (o : Called). o .answer % 32) e ∙ number-part number place (number-fits number b))
@@ -59,7 +56,7 @@ module _ (run out : List ℕ) where
           let k = length (image (runOf run .net)) in
           written z (ap (λ (o : Called). o .answer % 32) e ∙ length-rest k) (ap (λ (o : Called). o .answer / 32) e ∙ length-part k)
           (ap (λ (o : Called). o .output) e)
-      by-room h z (inr short) = told 6 0 (omega arith) (omega arith) (omega arith) (call-short run out h z short)
+      by-room h z (inr short) = told 6 0 (omega arith) (early (omega arith)) (omega arith) (call-short run out h z short)
 
       by-number : length run ≤ maxRun → (runOf run .number ≡ 0) ⊎ (runOf run .number ≢ 0) → CallIs run out (callOf run out)
       by-number h (inl z) = by-room h z (le-or-lt (length (image (runOf run .net))) (length out))
@@ -68,7 +65,7 @@ module _ (run out : List ℕ) where
 
       by-length : (length run ≤ maxRun) ⊎ (maxRun < length run) → CallIs run out (callOf run out)
       by-length (inl h) = by-number h (eq-or-ne (runOf run .number) 0)
-      by-length (inr h) = told 3 0 (omega arith) (omega arith) (omega arith) (call-long run out h)
+      by-length (inr h) = told 3 0 (omega arith) (early (omega arith)) (omega arith) (call-long run out h)
 
   module _ (bytes : Bytes run) where
     -- an output as long as the largest image has room for every image

@@ -6,7 +6,7 @@ use mathlib.Core.List.{List, _++_}
 use Prim.Native.Nat.{ℕ, _+_, _*_, _/_, _%_, _<_, _≤_}
 use lib.Dec.{eqb, ltb}
 use lib.ListN.{length, drop}
-use Rattle.network.specs.Faults.{maxRefusal}
+use Rattle.network.specs.Faults.{FileNumber}
 use Rattle.network.specs.Writing.{Writing}
 use Rattle.records.specs.Image.{image, imageOf}
 use Rattle.records.specs.Running.{Running, runOf}
@@ -47,10 +47,10 @@ pub record Answers (o : Called) (r : ℕ) (exit : List ℕ) : Type 0 where
 
 -- ---- what an answer tells
 
--- the call is refused, with a number from 1 to `maxRefusal` and a place within the run, and nothing is written; or the run was accepted to its end and
+-- the call is refused, with a number from 1 to 7 or 10 to 12 and a place within the run, and nothing is written; or the run was accepted to its end and
 -- the image of its network is written
 pub data CallIs (run out : List ℕ) (o : Called) : Type 0 where
-  refused : (number place : ℕ) → 0 < number → number ≤ maxRefusal → place ≤ length run → o .answer % 32 ≡ number → o .answer / 32 ≡ place → o .output ≡ out
+  refused : (number place : ℕ) → 0 < number → FileNumber number → place ≤ length run → o .answer % 32 ≡ number → o .answer / 32 ≡ place → o .output ≡ out
       → CallIs run out o
   written : runOf run .number ≡ 0 → o .answer % 32 ≡ 0 → o .answer / 32 ≡ length (image (runOf run .net))
       → o .output ≡ image (runOf run .net) ++ drop (length (image (runOf run .net))) out → CallIs run out o

@@ -1,56 +1,62 @@
--- No call but the route call answers a number above `maxRefusal`.
+-- The numbers that calls but the route call answer: 0 to 7 and 10 to 12.
 -- Assumes nothing.
 use mathlib.Core.Bool.{Bool, cond, not, _||_}
 use mathlib.Core.List.{List}
-use Prim.Native.Nat.{ℕ, _≤_}
+use Prim.Native.Nat.{ℕ, _<_}
 use native.Mathlib.Omega.{arith}
 use lib.Dec.{eqb}
 use lib.ListN.{length}
 use Rattle.ancestors.proofs.Cases.{cond-by}
-use Rattle.network.specs.Faults.{maxRefusal, sizeFault, nodeFault, pairFault, costFault, originFault, rowLabelFault, reportLabelFault, predecessorFault, listFault, arcFault, rowFormNumber, reportFormNumber, firstOf}
+use Rattle.network.specs.Faults.{sizeFault, nodeFault, pairFault, costFault, originFault, rowLabelFault, reportLabelFault, predecessorFault, listFault, arcFault, rowFormNumber, reportFormNumber, firstOf, FileNumber, early, later}
 use Rattle.network.specs.Network.{Net, freshNumber}
 use Rattle.network.specs.Placing.{placeRowNumber, placeReportNumber}
 use Rattle.network.specs.Change.{changeNumber}
 use Rattle.network.specs.Round.{marked, strayMark, idleMark, roundNumber}
 
--- of two numbers not above `maxRefusal` the one taken is not above it
-cond-most : (t : Bool) (a b : ℕ) → a ≤ maxRefusal → b ≤ maxRefusal → cond t a b ≤ maxRefusal
-cond-most t a b f g = cond-by (λ k. k ≤ maxRefusal) t a b (λ _. f) (λ _. g)
+-- a number fits five bits
+pub number-fits : (k : ℕ) → FileNumber k → k < 32
+number-fits k (early h) = omega arith
+number-fits k (later g h) = omega arith
 
--- of a test its number, of two numbers the first
-pub test-most : (t : Bool) (k : ℕ) → k ≤ maxRefusal → cond t k 0 ≤ maxRefusal
-test-most t k h = cond-most t k 0 h (omega arith)
+-- of two numbers the one taken, of a test its number, of two numbers the first
+cond-of-file : (t : Bool) (a b : ℕ) → FileNumber a → FileNumber b → FileNumber (cond t a b)
+cond-of-file t a b f g = cond-by FileNumber t a b (λ _. f) (λ _. g)
 
-pub first-most : (a b : ℕ) → a ≤ maxRefusal → b ≤ maxRefusal → firstOf a b ≤ maxRefusal
+pub test-of-file : (t : Bool) (k : ℕ) → FileNumber k → FileNumber (cond t k 0)
+test-of-file t k h = cond-of-file t k 0 h (early (omega arith))
+
+pub first-of-file : (a b : ℕ) → FileNumber a → FileNumber b → FileNumber (firstOf a b)
 unfolding firstOf
-first-most a b f g = cond-most (eqb a 0) b a g f
+first-of-file a b f g = cond-of-file (eqb a 0) b a g f
 
-pub fresh-most : (n origin : ℕ) → freshNumber n origin ≤ maxRefusal
+pub fresh-of-file : (n origin : ℕ) → FileNumber (freshNumber n origin)
 unfolding freshNumber
-fresh-most n origin = test-most (sizeFault n origin) 3 (omega arith)
+fresh-of-file n origin = test-of-file (sizeFault n origin) 3 (early (omega arith))
 
-pub change-most : (x : Net) (s r c : ℕ) → changeNumber x s r c ≤ maxRefusal
+pub change-of-file : (x : Net) (s r c : ℕ) → FileNumber (changeNumber x s r c)
 unfolding changeNumber
-change-most x s r c = test-most (pairFault (x .nodes) s r || costFault c) 3 (omega arith)
+change-of-file x s r c = test-of-file (pairFault (x .nodes) s r || costFault c) 3 (early (omega arith))
 
-pub place-row-most : (x : Net) (y d p l : ℕ) → placeRowNumber x y d p l ≤ maxRefusal
+pub place-row-of-file : (x : Net) (y d p l : ℕ) → FileNumber (placeRowNumber x y d p l)
 unfolding placeRowNumber rowFormNumber
-place-row-most x y d p l =
-    cond-most (nodeFault (x .nodes) y) 3 _ (omega arith)
-    (cond-most (originFault (x .origin) y) 5 _ (omega arith)
-    (cond-most (rowLabelFault d) 10 _ (omega arith)
-    (cond-most (predecessorFault (x .nodes) y p) 11 _ (omega arith) (test-most (listFault (x .nodes) y l) 12 (omega arith)))))
+place-row-of-file x y d p l =
+    cond-of-file (nodeFault (x .nodes) y) 3 _ (early (omega arith))
+    (cond-of-file (originFault (x .origin) y) 5 _ (early (omega arith))
+    (cond-of-file (rowLabelFault d) 10 _ (later (omega arith) (omega arith))
+    (cond-of-file (predecessorFault (x .nodes) y p) 11 _ (later (omega arith) (omega arith))
+    (test-of-file (listFault (x .nodes) y l) 12 (later (omega arith) (omega arith))))))
 
-pub place-report-most : (x : Net) (s r d l : ℕ) → placeReportNumber x s r d l ≤ maxRefusal
+pub place-report-of-file : (x : Net) (s r d l : ℕ) → FileNumber (placeReportNumber x s r d l)
 unfolding placeReportNumber reportFormNumber
-place-report-most x s r d l =
-    cond-most (pairFault (x .nodes) s r) 3 _ (omega arith)
-    (cond-most (arcFault (x .cost s r)) 5 _ (omega arith)
-    (cond-most (reportLabelFault d) 10 _ (omega arith) (test-most (listFault (x .nodes) s l) 12 (omega arith))))
+place-report-of-file x s r d l =
+    cond-of-file (pairFault (x .nodes) s r) 3 _ (early (omega arith))
+    (cond-of-file (arcFault (x .cost s r)) 5 _ (early (omega arith))
+    (cond-of-file (reportLabelFault d) 10 _ (later (omega arith) (omega arith))
+    (test-of-file (listFault (x .nodes) s l) 12 (later (omega arith) (omega arith)))))
 
-pub round-most : (x : Net) (ms : List ℕ) → roundNumber x ms ≤ maxRefusal
+pub round-of-file : (x : Net) (ms : List ℕ) → FileNumber (roundNumber x ms)
 unfolding roundNumber
-round-most x ms =
-    cond-most (not (eqb (length ms) 32)) 1 _ (omega arith)
-    (cond-most (strayMark (x .nodes) (marked ms)) 3 _ (omega arith)
-    (test-most (idleMark (x .cost) (marked ms)) 7 (omega arith)))
+round-of-file x ms =
+    cond-of-file (not (eqb (length ms) 32)) 1 _ (early (omega arith))
+    (cond-of-file (strayMark (x .nodes) (marked ms)) 3 _ (early (omega arith))
+    (test-of-file (idleMark (x .cost) (marked ms)) 7 (early (omega arith))))

@@ -2,7 +2,7 @@
 -- the order of numbers.
 -- Assumes nothing.
 use mathlib.Core.Bool.{Bool, cond, not, _||_}
-use Prim.Native.Nat.{ℕ, _*_, _^_}
+use Prim.Native.Nat.{ℕ, _*_, _^_, _≤_}
 use lib.Dec.{eqb, ltb, leb}
 use Rattle.ancestors.specs.Ancestors.{has}
 
@@ -25,10 +25,6 @@ maxLabel = 31 * maxCost
 -- the highest grade
 abbrev pub maxGrade : ℕ
 maxGrade = 15
-
--- the largest number with which a change, a round or a record of a file is refused
-abbrev pub maxRefusal : ℕ
-maxRefusal = 12
 
 -- ---- 3, range
 
@@ -100,3 +96,10 @@ reportFormNumber n c s d l = cond (arcFault c) 5 (cond (reportLabelFault d) 10 (
 -- the first of two numbers that is not 0
 unfoldable pub firstOf : ℕ → ℕ → ℕ
 firstOf a b = cond (eqb a 0) b a
+
+-- ---- all of them
+
+-- the numbers with which a change, a round or a record of a file is refused, and 0: up to 12, without the route call's own, 8 and 9
+pub data FileNumber (k : ℕ) : Type 0 where
+  early : k ≤ 7 → FileNumber k
+  later : 10 ≤ k → k ≤ 12 → FileNumber k
