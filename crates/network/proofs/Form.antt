@@ -1,7 +1,7 @@
 -- Request Two: the numbers of form, each exactly under its condition; without a number there is no fault, and back; the numbers of before.
 -- Assumes nothing.
 use mathlib.Core.Path.{_≡_, refl, sym, ap, _∙_}
-use mathlib.Core.Bool.{Bool, true, false, cond, not, _&&_, _||_}
+use mathlib.Core.Bool.{Bool, true, false, cond, not, _&&_, _||_, or-false}
 use Prim.Native.Nat.{ℕ}
 use lib.Dec.{eqb}
 use borrow.Author.Tests.{eqb-true, eq-eqb, not-true}
@@ -10,7 +10,7 @@ use Rattle.network.specs.Network.{Net}
 use Rattle.network.specs.Placing.{placeRowNumber, placeReportNumber}
 use Rattle.network.specs.Form.{RowNumbered, ReportNumbered, asBefore}
 
--- ---- of four tests or three, the number of the first that holds
+-- ---- of four tests the number of the first that holds; a report has no test of a predecessor
 
 abbrev four : Bool → Bool → Bool → Bool → ℕ
 four a b c d = cond a 5 (cond b 10 (cond c 11 (cond d 12 0)))
@@ -24,17 +24,6 @@ four-tests false true c d = (refl, refl, refl, refl, refl, refl)
 four-tests false false true d = (refl, refl, refl, refl, refl, refl)
 four-tests false false false true = (refl, refl, refl, refl, refl, refl)
 four-tests false false false false = (refl, refl, refl, refl, refl, refl)
-
-abbrev three : Bool → Bool → Bool → ℕ
-three a b d = cond a 5 (cond b 10 (cond d 12 0))
-
-three-tests : (a b d : Bool) → (eqb (three a b d) 5 ≡ a) × (eqb (three a b d) 10 ≡ (not a && b)) × (eqb (three a b d) 12 ≡ (not (a || b) && d)) ×
-    (eqb (three a b d) 0 ≡ not (a || (b || d))) × (asBefore (three a b d) ≡ cond (a || (b || d)) 5 0)
-unfolding asBefore
-three-tests true b d = (refl, refl, refl, refl, refl)
-three-tests false true d = (refl, refl, refl, refl, refl)
-three-tests false false true = (refl, refl, refl, refl, refl)
-three-tests false false false = (refl, refl, refl, refl, refl)
 
 -- ---- rows
 
@@ -57,8 +46,9 @@ module _ (n c s d l : ℕ) where
   pub report-numbered : ReportNumbered n c s d l
   unfolding reportFormNumber reportFault
   report-numbered =
-      let t = three-tests (arcFault c) (reportLabelFault d) (listFault n s l) in
-      record { form = t .0; label = t .1; list = t .2; none = t .3 }
+      let t = four-tests (arcFault c) (reportLabelFault d) false (listFault n s l) in
+      let both = ap (λ b. not (arcFault c || b) && listFault n s l) (or-false (reportLabelFault d)) in
+      record { form = t .0; label = t .1; list = t .3 ∙ both; none = t .4 }
 
   pub report-form-none : reportFormNumber n c s d l ≡ 0 → reportFault n c s d l ≡ false
   report-form-none e = not-true _ (sym (report-numbered .none) ∙ eq-eqb _ 0 e)
@@ -84,4 +74,4 @@ pub place-report-before : (x : Net) (s r d l : ℕ) →
     asBefore (placeReportNumber x s r d l) ≡ cond (pairFault (x .nodes) s r) 3 (cond (reportFault (x .nodes) (x .cost s r) s d l) 5 0)
 unfolding placeReportNumber reportFormNumber reportFault
 place-report-before x s r d l =
-    then-before (pairFault (x .nodes) s r) _ _ (three-tests (arcFault (x .cost s r)) (reportLabelFault d) (listFault (x .nodes) s l) .4)
+    then-before (pairFault (x .nodes) s r) _ _ (four-tests (arcFault (x .cost s r)) (reportLabelFault d) false (listFault (x .nodes) s l) .5)
