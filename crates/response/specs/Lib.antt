@@ -1,0 +1,4 @@
+pub mod Messages
+pub mod Reading
+pub mod RoundTrip
+pub mod Inner
