@@ -3,5 +3,9 @@
 -- lists made of pieces of one size; messages by their sizes
 pub mod Pieces
 pub mod Sizes
--- an entry and a header, both ways
+-- an entry and a header, then messages, as bytes and back
 pub mod Fields
+pub mod Buffers
+-- what the calls answer, and the theorems
+pub mod Answering
+pub mod RoundTrip

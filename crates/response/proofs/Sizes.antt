@@ -10,6 +10,7 @@ use Rattle.records.specs.Numbers.{be8, be16, be32}
 use Rattle.records.specs.Image.{each}
 use Rattle.records.proofs.Each.{each-zero, each-next, each-split}
 use Rattle.response.specs.Messages.{address, entry, entryLength, header, headerLength, entries, message, mostEntries, messageCount, firstNode, entryCount, messages, messagesLength, maxMessages}
+use Rattle.response.specs.Reading.{fullLength}
 use Rattle.response.proofs.Pieces.{each-size}
 
 -- ---- lengths
@@ -51,6 +52,10 @@ module _ (n : ℕ) where
   pub before-here : (k : ℕ) → k < messageCount n → nodesBefore n k ≡ firstNode k
   unfolding nodesBefore messageCount
   before-here k h = omega arith
+
+  -- the place of that message
+  pub message-place : (k : ℕ) → k < messageCount n → k * fullLength ≡ k * headerLength + nodesBefore n k * entryLength
+  message-place k h = omega (arith, before-here k h)
 
   -- all messages have all of them
   pub before-all : nodesBefore n (messageCount n) ≡ n

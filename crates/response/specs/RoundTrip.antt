@@ -40,10 +40,10 @@ unfoldable pub rowMetrics : Net → List ℕ
 rowMetrics x = each (λ y. metric (x .row y) ∷ []) 0 (x .nodes)
 
 -- what an accepted call writes for x reads back to the metric of each node
-pub ReadsBack : Type 0
+abbrev pub ReadsBack : Type 0
 ReadsBack = (base : ℕ) (x : Net) (out : List ℕ) → base < 2 ^ 32 → writeOf base x out .number ≡ 0
     → Accepts base (x .nodes) (take (writeOf base x out .used) (writeOf base x out .output)) (rowMetrics x)
 
 -- an output of the most bytes is never refused as 6
-pub RoomEnough : Type 0
+abbrev pub RoomEnough : Type 0
 RoomEnough = (base : ℕ) (x : Net) (out : List ℕ) → maxMessages ≤ length out → writeOf base x out .number ≡ givenThen base (x .nodes) 0
