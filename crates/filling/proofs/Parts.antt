@@ -2,11 +2,12 @@
 -- Assumes nothing.
 use mathlib.Core.Path.{_≡_, refl, sym, ap, _∙_}
 use mathlib.Core.List.{List, [], _∷_, _++_, append-assoc, append-nil}
-use Prim.Native.Nat.{ℕ, _+_, _-_, _≤_}
+use Prim.Native.Nat.{ℕ, suc, _+_, _-_, _<_, _≤_}
 use native.Mathlib.Nat.{zero-add}
+use native.Mathlib.Numerals.{add-one}
 use native.Mathlib.Omega.{arith}
-use lib.ListN.{length, take, drop, set, length-append, length-drop, take-append-drop, drop-of-length-le}
-use lib.Seq.{length-take-le, take-at, drop-at, take-all, drop-drop}
+use lib.ListN.{length, take, drop, set, getD, length-append, length-drop, take-append-drop, drop-of-length-le}
+use lib.Seq.{length-take-le, take-at, drop-at, drop-cons, set-at, take-all, drop-drop}
 use Rattle.filling.specs.Filling.{Wrote, Added}
 
 -- nothing written
@@ -78,6 +79,18 @@ added-none e a p h =
 -- the same bytes in other words
 pub added-as : {s w e x : List ℕ} {a b : ℕ} → s ≡ w → Added w e x a b → Added s e x a b
 added-as p h = rw p h
+
+-- one byte more, stored at the next place
+pub added-byte : {w e x : List ℕ} {a b : ℕ} (v : ℕ) → Added w e x a b → b < length e → Added (w ++ (v ∷ [])) e (set x b v) a (b + 1)
+added-byte {w} {e} {x} {a} {b} v h k =
+    let n : length (take a e ++ w) ≡ b = omega (arith, h .place, length-append (take a e) w, length-take-le a e (h .within)) in
+    record {
+      within = h .within;
+      place = omega (arith, h .place, length-append w (v ∷ []));
+      left =
+          ap (λ (l : List ℕ). set l b v) (h .left ∙ sym (append-assoc (take a e) w (drop b e)) ∙ ap (λ (l : List ℕ). (take a e ++ w) ++ l) (drop-cons e b 0 k)) ∙
+          set-at (take a e ++ w) (getD e b 0) (drop (suc b) e) v b n ∙ rw (add-one b) (simp append-assoc);
+    }
 
 -- the next place is within the output, and the output is as long as it was
 pub added-within : {w e x : List ℕ} {a b : ℕ} → Added w e x a b → b ≤ length x

@@ -155,17 +155,17 @@ module _ (base : ℕ) (x : Net) (out : List ℕ) where
 -- ---- reading
 
 module _ (base n : ℕ) (b : List ℕ) where
-  refused-as : (k : ℕ) → k ≢ 0 → readNumber base n b ≡ k → readOf base n b ≡ reading k []
+  refused-as : (k : ℕ) → k ≢ 0 → readNumber base n b ≡ k → readOf base n b ≡ record { number = k; metrics = [] }
   unfolding readOf reading
   refused-as k h e = rw (e, ne-eqb k 0 h)
 
   -- 13 or 3
-  pub read-given : (k : ℕ) → k ≡ givenThen base n 0 → k ≢ 0 → readOf base n b ≡ reading k []
+  pub read-given : (k : ℕ) → k ≡ givenThen base n 0 → k ≢ 0 → readOf base n b ≡ record { number = k; metrics = [] }
   unfolding readNumber
   read-given k e h = refused-as k h (given-first base n (cond (bufferFault base n b) 14 0) (λ z. h (e ∙ z)) ∙ sym e)
 
   -- 14
-  pub read-wrong : givenThen base n 0 ≡ 0 → bufferFault base n b ≡ true → readOf base n b ≡ reading 14 []
+  pub read-wrong : givenThen base n 0 ≡ 0 → bufferFault base n b ≡ true → readOf base n b ≡ record { number = 14; metrics = [] }
   unfolding readNumber
   read-wrong g h = refused-as 14 (λ z. omega arith) (given-last base n _ g ∙ rw h)
 

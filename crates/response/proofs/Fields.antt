@@ -3,16 +3,16 @@
 use mathlib.Core.Path.{_≡_, refl, sym, ap, _∙_}
 use mathlib.Core.Bool.{Bool, true, false, cond, not, _||_}
 use mathlib.Core.List.{List, [], _∷_, _++_}
-use mathlib.Core.Logic.{_⊎_, inl, inr}
+use mathlib.Core.Logic.{_⊎_, inl, inr, _≢_}
 use Prim.Native.Nat.{ℕ, suc, _+_, _*_, _^_, _<_, _≤_}
 use native.Mathlib.Numerals.{add-one}
 use native.Mathlib.Omega.{arith}
 use lib.Dec.{eqb, ltb}
 use lib.ListN.{length, take, drop, getD}
 use lib.Seq.{drop-cons}
-use borrow.Author.Tests.{eqb-true, eqb-false, ne-eqb, lt-ltb, le-ltb, ltb-false, not-false}
+use borrow.Author.Tests.{eq-eqb, eqb-true, eqb-false, ne-eqb, lt-ltb, le-ltb, ltb-false, not-false}
 use Rattle.ancestors.specs.Ancestors.{hops}
-use Rattle.ancestors.proofs.Cases.{bool-cases, le-or-lt, never, eqb-same, or-neither}
+use Rattle.ancestors.proofs.Cases.{bool-cases, le-or-lt, eq-or-ne, never, eqb-same, or-neither}
 use Rattle.network.specs.Network.{Row, none, root, via}
 use Rattle.records.specs.Numbers.{Bytes, be8, be16, be32, num8, num16, num32}
 use Rattle.records.proofs.NumberLaws.{be8-of, be16-of, be32-of, num32-of}
@@ -110,6 +110,23 @@ module _ (a : ℕ) (b : List ℕ) where
   pub family-same : Fields → num32 b 0 ≡ 131072
   unfolding num32
   family-same f = omega (arith, f .family, f .tag)
+
+  -- what the reader of an entry answers: 0 for a wrong field
+  pub entry-wrong : (v : ℕ) → (Fields → metricFault (entryMetric b) ≡ false → ⊥) → 0 ≡ cond (entryFault a b) 0 v
+  entry-wrong v h = go (bool-cases (entryFault a b))
+    where
+      go : (entryFault a b ≡ true) ⊎ (entryFault a b ≡ false) → 0 ≡ cond (entryFault a b) 0 v
+      go (inl e) = rw e
+      go (inr e) = let s = entry-says e in absurd (h (s .0) (s .1))
+
+  -- and else the metric, which is 0 where it is too small
+  pub entry-answer : Fields → entryMetric b ≤ infinity → entryMetric b ≡ cond (entryFault a b) 0 (entryMetric b)
+  unfolding metricFault
+  entry-answer f h = rw (entry-by f, le-ltb infinity (entryMetric b) h) (go (eq-or-ne (entryMetric b) 0))
+    where
+      go : (entryMetric b ≡ 0) ⊎ (entryMetric b ≢ 0) → entryMetric b ≡ cond (eqb (entryMetric b) 0 || false) 0 (entryMetric b)
+      go (inl e) = rw (eq-eqb (entryMetric b) 0 e) e
+      go (inr e) = rw (ne-eqb (entryMetric b) 0 e)
 
   -- the bytes of such an entry
   pub entry-back : Bytes b → entryLength ≤ length b → Fields → take entryLength b ≡ entry a (entryMetric b)

@@ -1,14 +1,14 @@
 -- Lengths of entries and messages, how many nodes come before a message, and the room that messages take.
 -- Assumes nothing.
 use mathlib.Core.Path.{_≡_, refl, ap, _∙_}
-use mathlib.Core.List.{List, _++_}
+use mathlib.Core.List.{List, [], _++_}
 use Prim.Native.Nat.{ℕ, zero, suc, _+_, _*_, _<_, _≤_, min}
 use native.Mathlib.Omega.{arith}
 use lib.ListN.{length, length-append}
 use Rattle.network.specs.Faults.{maxNodes}
 use Rattle.records.specs.Numbers.{be8, be16, be32}
 use Rattle.records.specs.Image.{each}
-use Rattle.records.proofs.Each.{each-zero, each-next, each-split}
+use Rattle.records.proofs.Each.{each-zero, each-last, each-next, each-split}
 use Rattle.response.specs.Messages.{address, entry, entryLength, header, headerLength, entries, message, mostEntries, messageCount, firstNode, entryCount, messages, messagesLength, maxMessages}
 use Rattle.response.specs.Reading.{fullLength}
 use Rattle.response.proofs.Pieces.{each-size}
@@ -31,6 +31,16 @@ module _ (base : ℕ) (metrics : ℕ → ℕ) (y d : ℕ) where
   pub message-size : length (message base metrics y d) ≡ headerLength + d * entryLength
   unfolding message
   message-size = omega (arith, length-append header (entries base metrics y d), header-size, entries-size)
+
+-- no entries, and one more
+pub entries-none : (base : ℕ) (metrics : ℕ → ℕ) (y : ℕ) → entries base metrics y 0 ≡ []
+unfolding entries
+entries-none base metrics y = each-zero (λ i. entry (address base i) (metrics i)) y
+
+pub entries-next : (base : ℕ) (metrics : ℕ → ℕ) (y d : ℕ)
+    → entries base metrics y (d + 1) ≡ entries base metrics y d ++ entry (address base (y + d)) (metrics (y + d))
+unfolding entries
+entries-next base metrics y d = each-last (λ i. entry (address base i) (metrics i)) y d
 
 -- ---- the nodes before a message
 

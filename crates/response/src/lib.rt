@@ -12,7 +12,7 @@ ghost use Rattle.network.specs.Writing.{Writes};
 ghost use Rattle.memory.specs.Layout.{view};
 ghost use Rattle.filling.specs.Filling.{Wrote, Added};
 ghost use Rattle.response.specs.Messages.{hopsMetric, metric, address, entry, entryLength, headerLength, entries, message, firstNode, entryCount, messageCount, messagesLength, givenThen, rowMessages, writeOf};
-ghost use Rattle.response.specs.Reading.{entryFault, entryMetric, reading, readOf, Reads};
+ghost use Rattle.response.specs.Reading.{entryFault, entryMetric, readOf, Reads};
 ghost use Rattle.response.specs.Inner.{Sound, nodeMetrics, EntriesRead, MessageRead, BufferRead};
 use memory::Network;
 use memory::RowRead;
@@ -322,7 +322,7 @@ fn read_buffer(bytes: &[u8], base: u32, n: usize, metrics: &mut [u8]) -> bool
 }
 
 fn refused(number: u8) -> MetricsRead
-    ensures { λ r. ⌜ Reads (reading number []) r ⌝ }
+    ensures { λ r. ⌜ Reads (record { number = number; metrics = [] }) r ⌝ }
 {
     MetricsRead {
         number,
