@@ -4,7 +4,7 @@
 use libc::STDOUT_FILENO;
 
 // One byte more than the longest input, so that a longer one is known without reading all of it.
-const ROOM: usize = table::MAX_INPUT + 1;
+const ROOM: usize = text::MAX_INPUT + 1;
 
 fn main() {
     let mut room = [0u8; ROOM];

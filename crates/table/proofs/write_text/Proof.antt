@@ -5,7 +5,7 @@ use native.Mathlib.Omega.{arith}
 use denote.Ref.{now}
 use Rattle.filling.proofs.Parts.{wrote-as}
 use Rattle.filling.proofs.Copying.{wrote-all}
-use Rattle.table.specs.Text.{maxInput, tooLong}
+use Rattle.text.specs.Text.{maxInput, tooLong}
 use Rattle.table.proofs.Texts.{text-long}
 use Rattle.table.proofs.write_text.Statement.{statement}
 use Rattle.table.proofs.write_text.Tie as tie
