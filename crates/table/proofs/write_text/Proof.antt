@@ -15,7 +15,7 @@ unfolding maxInput tooLong
 returns c =
     let test = c .before .before in
     let a = test .before .before .before .args in
-    wrote-as (text-long (now (a .input)) (test .if1 .taken)) (wrote-all _ (now (a .out)) (omega arith) (c .copy .ensures))
+    wrote-as (text-long (now (a .input)) (omega arith)) (wrote-all _ (now (a .out)) (omega arith) (c .copy .ensures))
 
 put-run-requires : tie.Need-put-run-requires
 unfolding maxInput
