@@ -1,4 +1,2 @@
-pub mod Filling
-pub mod Digits
 pub mod Rows
 pub mod Texts

@@ -11,7 +11,8 @@ use Rattle.memory.specs.Answers.{readRow, rowMeans}
 use Rattle.memory.specs.declared.RowRead.{RowRead}
 use Rattle.memory.specs.declared.RowRead.the-variants as R
 use Rattle.memory.proofs.Laws.{said-refused, said-none, said-origin, said-route}
-use Rattle.table.specs.Text.{field, noRoute, originFields, fields}
+use Rattle.text.specs.Text.{field}
+use Rattle.table.specs.Text.{noRoute, originFields, fields}
 
 module _ (x : Net) (y : ℕ) (r : RowRead) (said : rowMeans r ≡ readRow x y) where
   -- a node is not refused

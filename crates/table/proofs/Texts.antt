@@ -13,7 +13,8 @@ use Rattle.records.specs.Running.{Running}
 use Rattle.records.proofs.Begun.{run-refused}
 use Rattle.running.specs.Answers.{Ends}
 use Rattle.running.specs.declared.Ended.{Ended}
-use Rattle.table.specs.Text.{maxInput, tableText, stopLine, lastLine, runText, tooLong, textOf}
+use Rattle.text.specs.Text.{maxInput, stopLine, lastLine, tooLong}
+use Rattle.table.specs.Text.{tableText, runText, textOf}
 
 -- a longer input than the longest
 pub text-long : (s : List ℕ) → maxInput < length s → textOf s ≡ tooLong

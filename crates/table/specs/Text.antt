@@ -2,7 +2,7 @@
 -- Assumes nothing.
 use mathlib.Core.Bool.{cond}
 use mathlib.Core.List.{List, [], _∷_, _++_}
-use Prim.Native.Nat.{ℕ, zero, suc, _+_, _/_, _%_}
+use Prim.Native.Nat.{ℕ}
 use lib.Dec.{eqb, ltb}
 use lib.ListN.{length}
 use Rattle.ancestors.specs.Ancestors.{hops}
@@ -10,27 +10,7 @@ use Rattle.network.specs.Network.{Row, none, root, via, Net}
 use Rattle.records.specs.Image.{each}
 use Rattle.records.specs.Opening.{openOf}
 use Rattle.records.specs.Running.{Running, runOf}
-
--- the bytes of the longest input
-unfoldable pub maxInput : ℕ
-maxInput = 65536
-
--- the decimal digits of n with no zeros in front; at most k of them
-unfoldable pub decimalIn : ℕ → ℕ → List ℕ
-decimalIn zero n = []
-decimalIn (suc k) n = cond (ltb n 10) [] (decimalIn k (n / 10)) ++ ((48 + n % 10) ∷ [])
-
--- a number in decimal; n has not more digits than n + 1
-unfoldable pub decimal : ℕ → List ℕ
-decimal n = decimalIn (suc n) n
-
--- a space and a number
-unfoldable pub field : ℕ → List ℕ
-field n = 32 ∷ decimal n
-
--- the end of a line
-abbrev pub newline : List ℕ
-newline = 10 ∷ []
+use Rattle.text.specs.Text.{maxInput, decimal, field, newline, stopLine, lastLine, tooLong}
 
 -- " - - -": no route
 unfoldable pub noRoute : List ℕ
@@ -62,21 +42,9 @@ roundsLine rounds = 114 ∷ 111 ∷ 117 ∷ 110 ∷ 100 ∷ 115 ∷ (field round
 unfoldable pub tableText : Net → ℕ → List ℕ
 tableText x rounds = header ++ (each (line x) 0 (x .nodes) ++ roundsLine rounds)
 
--- "stopped", the number, " at" and the place
-unfoldable pub stopLine : ℕ → ℕ → List ℕ
-stopLine number place = 115 ∷ 116 ∷ 111 ∷ 112 ∷ 112 ∷ 101 ∷ 100 ∷ (field number ++ (32 ∷ 97 ∷ 116 ∷ (field place ++ newline)))
-
--- the last line of a run that stopped at a refusal
-unfoldable pub lastLine : ℕ → ℕ → List ℕ
-lastLine number place = cond (eqb number 0) [] (stopLine number place)
-
 -- a run whose image was accepted
 unfoldable pub runText : Running → List ℕ
 runText o = tableText (o .net) (o .rounds) ++ lastLine (o .number) (o .place)
-
--- "too long" and the end of the line
-unfoldable pub tooLong : List ℕ
-tooLong = 116 ∷ 111 ∷ 111 ∷ 32 ∷ 108 ∷ 111 ∷ 110 ∷ 103 ∷ 10 ∷ []
 
 -- the whole text; a refused image prints only the line of the refusal
 unfoldable pub textOf : List ℕ → List ℕ

@@ -9,37 +9,14 @@ ghost use lib.ListN.{length};
 ghost use Rattle.memory.specs.Layout.{view};
 ghost use Rattle.records.specs.Image.{each};
 ghost use Rattle.filling.specs.Filling.{Wrote};
-ghost use Rattle.table.specs.Text.{decimal, field, fields, line, tableText, lastLine, maxInput, textOf};
-ghost use Rattle.table.specs.Filled.{Filled};
+ghost use Rattle.text.specs.Text.{field, maxInput};
+ghost use Rattle.text.specs.Filled.{Filled};
+ghost use Rattle.table.specs.Text.{fields, line, tableText, textOf};
 use memory::Network;
 use memory::RowRead;
 
 // The bytes of an output with room for every text.
 pub const MAX_TEXT: usize = 4096;
-
-// The bytes of the longest input.
-pub const MAX_INPUT: usize = 65536;
-
-// ---- text and numbers, from a place of the output on; each writer answers the place after its bytes
-
-// Bytes.
-fn put_text(text: &[u8], out: &mut [u8], at: usize) -> usize
-    requires { ⌜ at + length (now text) ≤ length (now out) ⌝ }
-    ensures { λ r. ⌜ Filled (length (now (text .entry))) (now (text .entry)) (now (out .entry)) (now (out .exit)) at r ⌝ }
-{
-    at + filling::copy(text, &mut out[at..])
-}
-
-// Bytes and a number in decimal.
-fn put_number(text: &[u8], n: usize, out: &mut [u8], at: usize) -> usize
-    requires { ⌜ at + (length (now text) + 20) ≤ length (now out) ⌝ }
-    ensures { λ r. ⌜ Filled (length (now (text .entry)) + 20) (now (text .entry) ++ decimal n) (now (out .entry)) (now (out .exit)) at r ⌝ }
-{
-    let mut digits = [0u8; 20];
-    let k = io::decimal(n as u64, &mut digits);
-    let next = put_text(text, out, at);
-    put_text(&digits[..k], out, next)
-}
 
 // ---- a line of the table
 
@@ -48,9 +25,9 @@ fn put_route(label: u32, predecessor: u32, hops: u32, out: &mut [u8], at: usize)
     requires { ⌜ at + 63 ≤ length (now out) ⌝ }
     ensures { λ r. ⌜ Filled 63 (field label ++ (field predecessor ++ field hops)) (now (out .entry)) (now (out .exit)) at r ⌝ }
 {
-    let from = put_number(b" ", label as usize, out, at);
-    let last = put_number(b" ", predecessor as usize, out, from);
-    put_number(b" ", hops as usize, out, last)
+    let from = text::put_number(b" ", label as usize, out, at);
+    let last = text::put_number(b" ", predecessor as usize, out, from);
+    text::put_number(b" ", hops as usize, out, last)
 }
 
 // Label, predecessor and hops of a node.
@@ -67,8 +44,8 @@ fn put_fields(net: &Network, node: u32, out: &mut [u8], at: usize) -> usize
             list: _,
             hops,
         } => put_route(label, predecessor, hops, out, at),
-        RowRead::Origin { list: _, hops } => put_number(b" 0 - ", hops as usize, out, at),
-        RowRead::NoRoute => put_text(b" - - -", out, at),
+        RowRead::Origin { list: _, hops } => text::put_number(b" 0 - ", hops as usize, out, at),
+        RowRead::NoRoute => text::put_text(b" - - -", out, at),
         RowRead::Refused => 0,
     }
 }
@@ -79,9 +56,9 @@ fn put_line(net: &Network, node: u32, out: &mut [u8], at: usize) -> usize
     requires { ⌜ at + 84 ≤ length (now out) ⌝ }
     ensures { λ r. ⌜ Filled 84 (line (view (now (net .entry))) node) (now (out .entry)) (now (out .exit)) at r ⌝ }
 {
-    let next = put_number(b"", node as usize, out, at);
+    let next = text::put_number(b"", node as usize, out, at);
     let end = put_fields(net, node, out, next);
-    put_text(b"\n", out, end)
+    text::put_text(b"\n", out, end)
 }
 
 // ---- the table
@@ -106,25 +83,10 @@ fn put_table(net: &Network, rounds: usize, out: &mut [u8], at: usize) -> usize
     requires { ⌜ at + 2736 ≤ length (now out) ⌝ }
     ensures { λ r. ⌜ Filled 2736 (tableText (view (now (net .entry))) rounds) (now (out .entry)) (now (out .exit)) at r ⌝ }
 {
-    let start = put_text(b"node cost from hops\n", out, at);
+    let start = text::put_text(b"node cost from hops\n", out, at);
     let end = put_lines(net, out, start);
-    let last = put_number(b"rounds ", rounds, out, end);
-    put_text(b"\n", out, last)
-}
-
-// ---- a refusal
-
-// The line of a refusal, number and place, where there was one.
-fn put_stop(number: u8, place: usize, out: &mut [u8], at: usize) -> usize
-    requires { ⌜ at + 53 ≤ length (now out) ⌝ }
-    ensures { λ r. ⌜ Filled 53 (lastLine number place) (now (out .entry)) (now (out .exit)) at r ⌝ }
-{
-    if number == 0 {
-        return at;
-    }
-    let next = put_number(b"stopped ", number as usize, out, at);
-    let end = put_number(b" at ", place, out, next);
-    put_text(b"\n", out, end)
+    let last = text::put_number(b"rounds ", rounds, out, end);
+    text::put_text(b"\n", out, last)
 }
 
 // ---- the whole text
@@ -139,9 +101,9 @@ fn put_run(input: &[u8], out: &mut [u8]) -> usize
     let run = running::run_into(&mut net, input);
     if run.opened {
         let end = put_table(&net, run.rounds, out, 0);
-        return put_stop(run.number, run.place, out, end);
+        return text::put_stop(run.number, run.place, out, end);
     }
-    put_stop(run.number, run.place, out, 0)
+    text::put_stop(run.number, run.place, out, 0)
 }
 
 // Writes the text that `routes` prints for an input, and answers its length.
@@ -149,7 +111,7 @@ pub fn write_text(input: &[u8], out: &mut [u8; MAX_TEXT]) -> usize
     ensures { λ r. ⌜ Wrote (textOf (now (input .entry))) (now (out .entry)) (now (out .exit)) r ⌝ }
 {
     let all: &mut [u8] = out;
-    if MAX_INPUT < input.len() {
+    if text::MAX_INPUT < input.len() {
         return filling::copy(b"too long\n", all);
     }
     put_run(input, all)

@@ -4,8 +4,11 @@ use borrow.Author.Needs.{needs}
 use native.Mathlib.Omega.{arith}
 use denote.Ref.{now}
 use Rattle.memory.specs.Layout.{view}
-use Rattle.table.specs.Text.{field, noRoute, originFields}
-use Rattle.table.proofs.Filling.{filled-as}
+use Rattle.text.specs.Text.{field}
+use Rattle.text.proofs.Digits.{long-digits}
+use Rattle.text.proofs.Filling.{filled-as}
+use Rattle.text.proofs.Putting.{puts-filled}
+use Rattle.table.specs.Text.{noRoute, originFields}
 use Rattle.table.proofs.Rows.{not-refused, fields-none, fields-origin, fields-route}
 use Rattle.table.proofs.put_fields.Statement.{statement}
 use Rattle.table.proofs.put_fields.Tie as tie
@@ -23,7 +26,8 @@ returns-2 c =
     let put = c .before .before in
     let row = put .before .before .before .before in
     let a = row .before .before .before .before .args in
-    filled-as (fields-origin (view (now (a .net))) (a .node) _ (row .before .before .row .ensures) (row .row3 .given .1)) (omega arith) (put .put-number .ensures)
+    filled-as (fields-origin (view (now (a .net))) (a .node) _ (row .before .before .row .ensures) (row .row3 .given .1)) (omega arith)
+    (puts-filled 25 (omega arith) (omega (arith, long-digits (row .row3 .given .0 .1 .0) (omega arith))) (put .put-number .ensures))
 
 returns-3 : tie.Need-returns-3
 unfolding noRoute
@@ -31,7 +35,8 @@ returns-3 c =
     let put = c .before .before in
     let row = put .before .before .before in
     let a = row .before .before .before .before .args in
-    filled-as (fields-none (view (now (a .net))) (a .node) _ (row .before .before .row .ensures) (row .enum-told .given .1)) (omega arith) (put .put-text .ensures)
+    filled-as (fields-none (view (now (a .net))) (a .node) _ (row .before .before .row .ensures) (row .enum-told .given .1)) (omega arith)
+    (puts-filled 6 (omega arith) (omega arith) (put .put-text .ensures))
 
 returns-4 : tie.Need-returns-4
 returns-4 c =

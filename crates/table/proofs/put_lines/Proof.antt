@@ -11,9 +11,9 @@ use Rattle.memory.proofs.Laws.{few}
 use Rattle.records.specs.Image.{each}
 use Rattle.records.proofs.Each.{each-zero, each-next}
 use Rattle.filling.proofs.Parts.{added-none}
+use Rattle.text.specs.Filled.{Filled}
+use Rattle.text.proofs.Filling.{filled-as, filled-on}
 use Rattle.table.specs.Text.{line}
-use Rattle.table.specs.Filled.{Filled}
-use Rattle.table.proofs.Filling.{filled-as, filled-on}
 use Rattle.table.proofs.put_lines.Statement.{statement}
 use Rattle.table.proofs.put_lines.Tie as tie
 

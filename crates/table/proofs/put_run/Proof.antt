@@ -4,6 +4,9 @@ use borrow.Author.Needs.{needs}
 use native.Mathlib.Omega.{arith}
 use denote.Ref.{now}
 use Rattle.filling.proofs.Parts.{added-front, added-as, added-on}
+use Rattle.text.proofs.Filling.{filled-room}
+use Rattle.text.proofs.Putting.{puts-filled}
+use Rattle.text.proofs.Stopping.{last-most}
 use Rattle.table.proofs.Texts.{text-refused, text-opened}
 use Rattle.table.proofs.put_run.Statement.{statement}
 use Rattle.table.proofs.put_run.Tie as tie
@@ -16,7 +19,8 @@ returns c =
     let run = test .before .run-into in
     let s = test .before .before .before .before .before in
     let text = text-opened (now (s .args .input)) (s .pre .0) (run .result) _ (run .ensures) (test .if1 .taken) in
-    added-front (added-as text (added-on (table .put-table .ensures .added) (last .put-stop .ensures .added)))
+    let stop = puts-filled 53 (filled-room 53 (omega arith) (table .put-table .ensures)) (last-most (run .result .number) (run .result .place) (omega arith) (omega arith)) (last .put-stop .ensures) in
+    added-front (added-as text (added-on (table .put-table .ensures .added) (stop .added)))
 
 returns-2 : tie.Need-returns-2
 returns-2 c =
@@ -25,7 +29,8 @@ returns-2 c =
     let run = test .before .run-into in
     let s = test .before .before .before .before .before in
     let text = text-refused (now (s .args .input)) (s .pre .0) (run .result) _ (run .ensures) (test .if1 .left) in
-    added-front (added-as text (stop .put-stop2 .ensures .added))
+    let line = puts-filled 53 (omega arith) (last-most (run .result .number) (run .result .place) (omega arith) (omega arith)) (stop .put-stop2 .ensures) in
+    added-front (added-as text (line .added))
 
 pub put-run-spec : {M : Type 1} → statement M
 put-run-spec =
@@ -33,9 +38,9 @@ put-run-spec =
     (tie.spec
     (λ c κs. search needs)
     (λ c κs. omega arith)
-    (λ c κs. omega arith)
+    (λ c κs. search needs)
     (λ c. search needs)
     returns
-    (λ c κs. omega arith)
+    (λ c κs. search needs)
     (λ c. search needs)
     returns-2)

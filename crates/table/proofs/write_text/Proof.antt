@@ -5,7 +5,7 @@ use native.Mathlib.Omega.{arith}
 use denote.Ref.{now}
 use Rattle.filling.proofs.Parts.{wrote-as}
 use Rattle.filling.proofs.Copying.{wrote-all}
-use Rattle.table.specs.Text.{maxInput, tooLong}
+use Rattle.text.specs.Text.{maxInput, tooLong}
 use Rattle.table.proofs.Texts.{text-long}
 use Rattle.table.proofs.write_text.Statement.{statement}
 use Rattle.table.proofs.write_text.Tie as tie
@@ -15,7 +15,7 @@ unfolding maxInput tooLong
 returns c =
     let test = c .before .before in
     let a = test .before .before .before .args in
-    wrote-as (text-long (now (a .input)) (test .if1 .taken)) (wrote-all _ (now (a .out)) (omega arith) (c .copy .ensures))
+    wrote-as (text-long (now (a .input)) (omega arith)) (wrote-all _ (now (a .out)) (omega arith) (c .copy .ensures))
 
 put-run-requires : tie.Need-put-run-requires
 unfolding maxInput

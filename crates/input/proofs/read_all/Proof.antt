@@ -1,4 +1,4 @@
--- `routes::read_all` ends, and the bytes read lie in buf. The loop's invariant: the place is within buf, which is as long as it was.
+-- `input::read_all` ends, and the bytes read lie in buf. The loop's invariant: the place is within buf, which is as long as it was.
 -- Assumes nothing.
 use borrow.Author.Needs.{needs}
 use native.Mathlib.Omega.{arith}
@@ -7,8 +7,8 @@ use mathlib.Core.Path.{_≡_}
 use mathlib.Core.List.{List}
 use lib.ListN.{length, take, drop, length-drop}
 use lib.Seq.{length-take-le}
-use Rattle.routes.proofs.read_all.Statement.{statement}
-use Rattle.routes.proofs.read_all.Tie as tie
+use Rattle.input.proofs.read_all.Statement.{statement}
+use Rattle.input.proofs.read_all.Tie as tie
 
 -- bytes read into the part from a on lie within the whole
 inside : (a : ℕ) (x : List ℕ) (b : ℕ) → a ≤ length x → b ≤ length (take (length x - a) (drop a x)) → a + b ≤ length x

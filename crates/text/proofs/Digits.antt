@@ -11,7 +11,7 @@ use lib.ListN.{length, length-append}
 use borrow.Author.Tests.{lt-ltb, le-ltb}
 use Rattle.io.specs.Digits.{digits, Fewest}
 use Rattle.ancestors.proofs.Cases.{le-or-lt}
-use Rattle.table.specs.Text.{decimalIn, decimal}
+use Rattle.text.specs.Text.{decimalIn, decimal}
 
 -- the last digit of n
 abbrev last : ℕ → List ℕ
