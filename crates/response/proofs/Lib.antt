@@ -8,5 +8,6 @@ pub mod Fields
 pub mod Buffers
 -- what the calls read and answer, and the theorems
 pub mod Rows
+pub mod Storing
 pub mod Answering
 pub mod RoundTrip

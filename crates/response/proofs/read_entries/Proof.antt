@@ -1,7 +1,8 @@
 -- `response::read_entries` meets its contract. The loop's invariant: no entry passed has a wrong field, and their metrics stand in their places.
 -- Assumes nothing.
+use borrow.Author.Needs.{needs}
 use native.Mathlib.Omega.{arith}
-use Prim.Native.Nat.{_+_, _*_, _-_, _≤_}
+use Prim.Native.Nat.{ℕ, _+_, _*_, _-_, _≤_}
 use mathlib.Core.Path.{_≡_, refl, sym, ap, subst, _∙_}
 use mathlib.Core.Bool.{true, false}
 use lib.ListN.{length, length-set}
@@ -9,9 +10,10 @@ use denote.Ref.{now}
 use Rattle.network.specs.Round.{some}
 use Rattle.network.specs.Faults.{maxNodes}
 use Rattle.filling.specs.Filling.{Added}
-use Rattle.filling.proofs.Parts.{added-none, added-as, added-byte}
 use Rattle.response.specs.Messages.{address, headerLength, entryLength}
 use Rattle.response.specs.Reading.{entryFault, entryFrom, messageMetrics}
+use Rattle.response.specs.Inner.{EntriesRead}
+use Rattle.response.proofs.Storing.{stored-wrong, stored-right, some-more, some-zero, zero-wrong, other-right, metrics-none, metrics-next}
 use Rattle.response.proofs.read_entries.Statement.{statement}
 use Rattle.response.proofs.read_entries.Tie as tie
 
@@ -23,22 +25,49 @@ abbrev μ-loop : tie.MeasureT-loop
 μ-loop part base first count metrics₀ i₀ metrics i = count - i
 
 loop-holds : tie.Need-loop-holds Inv-loop μ-loop
-loop-holds c = ?
+loop-holds c =
+    let a = c .before .before .args in
+    (some-zero _, metrics-none (now (a .part)) (now (a .metrics)) (a .first) (omega arith), omega arith, omega arith)
 
 node-address-requires : tie.Need-node-address-requires Inv-loop μ-loop
-node-address-requires c κs = ?
+node-address-requires c κs = (c .before .before .before .before .before .pre .0, omega arith)
 
 returns : tie.Need-returns Inv-loop μ-loop
-returns c = ?
-
-cast-metrics : tie.Need-cast-metrics Inv-loop μ-loop
-cast-metrics c = ?
+returns c =
+    let read = c .before in
+    let address-of = read .before .node-address in
+    let l = read .before .before .before .before .loop in
+    let a = read .before .before .before .before .before .before .before .args in
+    let b = now (a .part) in
+    let at = headerLength + l .i * entryLength in
+    stored-wrong (λ j. entryFault (address (a .base) (a .first + j)) (entryFrom b j)) _ (now (a .metrics)) (l .metrics) (a .first) (a .first + a .count) (a .count) (l .i) (omega arith)
+    (subst (λ (z : ℕ). entryFault z (entryFrom b (l .i)) ≡ true) (address-of .ensures)
+    (zero-wrong (at + entryLength - at) (entryFrom b (l .i)) (omega arith) (address-of .result) (read .read-entry .result) (read .read-entry .ensures) (c .if1 .taken)))
 
 loop-again : tie.Need-loop-again Inv-loop μ-loop
-loop-again c = ?
+loop-again c =
+    let read = c .before in
+    let address-of = read .before .node-address in
+    let l = read .before .before .before .before .loop in
+    let a = read .before .before .before .before .before .before .before .args in
+    let b = now (a .part) in
+    let at = headerLength + l .i * entryLength in
+    let m = read .read-entry .result in
+    let r = other-right (at + entryLength - at) (entryFrom b (l .i)) (omega arith) (address-of .result) m (read .read-entry .ensures) (c .if1 .left) in
+    let f = subst (λ (z : ℕ). entryFault z (entryFrom b (l .i)) ≡ false) (address-of .ensures) (r .0) in
+    (some-more (λ j. entryFault (address (a .base) (a .first + j)) (entryFrom b j)) (l .i) (l .inv .0) f,
+    metrics-next b (now (a .metrics)) (a .first) (l .i) m (l .inv .1) (omega arith) (r .1) (r .2),
+    omega arith,
+    simp length-set (omega arith))
 
 returns-2 : tie.Need-returns-2 Inv-loop μ-loop
-returns-2 c = ?
+returns-2 c =
+    let l = c .before .loop in
+    let a = c .before .before .before .before .args in
+    let b = now (a .part) in
+    let e : l .i ≡ a .count = omega arith in
+    subst (λ (i : ℕ). EntriesRead (a .base) (a .first) i b (now (a .metrics)) (l .metrics) true) e
+    (stored-right (λ j. entryFault (address (a .base) (a .first + j)) (entryFrom b j)) _ (now (a .metrics)) (l .metrics) (a .first) (a .first + l .i) (l .i) (l .inv .0) (l .inv .1))
 
 pub read-entries-spec : {M : Type 1} → statement M
 read-entries-spec =
@@ -55,13 +84,13 @@ read-entries-spec =
     (λ c. omega arith)
     (λ c. omega arith)
     node-address-requires
-    (λ c κs. ?)
-    (λ c. ?)
+    (λ c κs. search needs)
+    (λ c. omega arith)
     returns
-    cast-metrics
+    (λ c. search needs)
     (λ c. omega arith)
     (λ c. omega arith)
     (λ c. omega arith)
     loop-again
-    (λ c. ?)
+    (λ c. omega arith)
     returns-2)
