@@ -103,6 +103,10 @@ added-long h m = as-long (added-wrote h) m
 pub added-room : {w e x : List ℕ} {a b : ℕ} (k : ℕ) → Added w e x a b → b + k ≤ length e → k ≤ length (take (length x - b) (drop b x))
 added-room k h m = room k (added-wrote h) m
 
+-- the output itself has room for them
+pub added-fits : {w e x : List ℕ} {a b : ℕ} (k : ℕ) → Added w e x a b → b + k ≤ length e → b + k ≤ length x
+added-fits k h m = omega (arith, added-long h (omega arith))
+
 -- more bytes, written in the rest
 pub added-then : {w v e x y : List ℕ} {a b k : ℕ} → Added w e x a b → Wrote v (take (length x - b) (drop b x)) y k
     → Added (w ++ v) e (take b x ++ (y ++ drop (length x - b) (drop b x))) a (b + k)

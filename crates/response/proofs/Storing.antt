@@ -4,25 +4,27 @@ use mathlib.Core.Path.{_≡_, refl, sym, ap, ap₂, subst, _∙_}
 use mathlib.Core.Bool.{Bool, true, false, cond, not, _||_}
 use mathlib.Core.List.{List, [], _∷_, _++_}
 use mathlib.Core.Logic.{_⊎_, inl, inr, _≢_}
-use Prim.Native.Nat.{ℕ, suc, _+_, _*_, _%_, _<_, _≤_}
+use Prim.Native.Nat.{ℕ, suc, _+_, _*_, _-_, _%_, _<_, _≤_}
 use native.Mathlib.Numerals.{add-one}
 use native.Mathlib.Nat.{zero-add}
 use native.Mathlib.Omega.{arith}
-use lib.ListN.{length, take, drop, set, getD}
-use lib.Seq.{getD-take}
+use lib.ListN.{length, take, drop, set, getD, length-drop}
+use lib.Seq.{getD-take, take-all}
+use borrow.Author.Tests.{eq-eqb, not-true, not-false}
 use Rattle.ancestors.proofs.Cases.{bool-cases, never}
 use Rattle.network.specs.Faults.{maxNodes}
 use Rattle.network.specs.Round.{some}
 use Rattle.network.proofs.Marking.{some-here, some-none, some-not}
-use Rattle.records.specs.Numbers.{num8, num16, num32}
+use Rattle.records.specs.Numbers.{Bytes, num8, num16, num32}
 use Rattle.records.specs.Image.{each}
 use Rattle.records.proofs.Each.{each-zero, each-next}
 use Rattle.filling.specs.Filling.{Added}
-use Rattle.filling.proofs.Parts.{added-none, added-as, added-byte}
-use Rattle.response.specs.Messages.{infinity, address, entryLength}
-use Rattle.response.specs.Reading.{metricFault, entryFault, entryMetric, entryFrom, messageMetrics}
-use Rattle.response.specs.Inner.{Stored, EntriesRead}
-use Rattle.response.proofs.Fields.{metric-says, entry-says}
+use Rattle.filling.proofs.Parts.{added-none, added-as, added-byte, added-on}
+use Rattle.response.specs.Messages.{infinity, address, entryLength, headerLength, messageCount, firstNode, entryCount, messagesLength}
+use Rattle.response.specs.Reading.{metricFault, entryFault, entryMetric, headerFault, entryFrom, messageFault, messageMetrics, fullLength, messageFrom, bufferFault, bufferMetrics}
+use Rattle.response.specs.Inner.{Stored, EntriesRead, MessageRead}
+use Rattle.response.proofs.Sizes.{nodesBefore, before-first, before-next, before-here, before-all}
+use Rattle.response.proofs.Fields.{metric-says, entry-says, header-says, header-by, header-word, header-same}
 
 -- ---- one of several is wrong, or none
 
@@ -105,3 +107,79 @@ module _ (b e : List ℕ) (y : ℕ) where
       let z : y + i + 1 ≡ y + (i + 1) = omega arith in
       subst (λ (j : ℕ). Added (each (λ i. entryMetric (entryFrom b i) ∷ []) 0 (i + 1)) e (set x (y + i) (m % 256)) y j) z
       (added-as (each-next (λ i. entryMetric (entryFrom b i) ∷ []) i ∙ rw v) (added-byte (m % 256) h k))
+
+-- ---- a message
+
+module _ (b : List ℕ) where
+  -- the number in its first four bytes decides about its header
+  first-word : num32 (take headerLength b) 0 ≡ num32 b 0
+  unfolding num32 num16 num8
+  first-word = rw (getD-take headerLength b 0 0 (omega arith), getD-take headerLength b 1 0 (omega arith), getD-take headerLength b 2 0 (omega arith), getD-take headerLength b 3 0 (omega arith))
+
+  pub header-wrong : num32 (take headerLength b) 0 ≢ 33685504 → headerFault b ≡ true
+  header-wrong h = go (bool-cases (headerFault b))
+    where
+      go : (headerFault b ≡ true) ⊎ (headerFault b ≡ false) → headerFault b ≡ true
+      go (inl e) = e
+      go (inr e) = absurd (h (first-word ∙ header-same b (header-says b e)))
+
+  pub header-right : Bytes b → num32 (take headerLength b) 0 ≡ 33685504 → headerFault b ≡ false
+  header-right bytes e = header-by b (header-word b bytes (sym first-word ∙ e))
+
+module _ (base y d : ℕ) (b entry exit : List ℕ) where
+  pub message-wrong : headerFault b ≡ true → MessageRead base y d b entry exit false
+  unfolding messageFault
+  message-wrong e = record { right = rw e; left = λ z. never false z refl }
+
+  -- with a right header its entries decide
+  pub message-read : {r : Bool} → headerFault b ≡ false → EntriesRead base y d b entry exit r → MessageRead base y d b entry exit r
+  unfolding messageFault
+  message-read e h = record { right = rw e (h .right); left = h .left }
+
+-- ---- a buffer
+
+module _ (base n : ℕ) (b : List ℕ) where
+  -- with the right length its messages decide
+  pub buffer-by : length b ≡ messagesLength n
+      → bufferFault base n b ≡ some (λ k. messageFault base (firstNode k) (entryCount n k) (messageFrom b k)) (messageCount n)
+  unfolding bufferFault
+  buffer-by e = rw (eq-eqb (length b) (messagesLength n) e)
+
+-- the metrics of the messages passed
+abbrev pub passedMetrics : ℕ → List ℕ → ℕ → List ℕ
+passedMetrics n b k = each (λ j. messageMetrics (entryCount n j) (messageFrom b j)) 0 k
+
+module _ (n : ℕ) (b e : List ℕ) where
+  pub passed-none : Added (passedMetrics n b 0) e e 0 (nodesBefore n 0)
+  passed-none =
+      subst (λ (p : ℕ). Added (passedMetrics n b 0) e e 0 p) (sym (before-first n)) (added-none e 0 (each-zero (λ j. messageMetrics (entryCount n j) (messageFrom b j)) 0) (omega arith))
+
+  pub passed-next : {x z : List ℕ} (k : ℕ) → k < messageCount n → Added (passedMetrics n b k) e x 0 (nodesBefore n k)
+      → Added (messageMetrics (entryCount n k) (messageFrom b k)) x z (firstNode k) (firstNode k + entryCount n k)
+      → Added (passedMetrics n b (k + 1)) e z 0 (nodesBefore n (k + 1))
+  passed-next {x} {z} k h p q =
+      let f = before-here n k h in
+      let r : Added (messageMetrics (entryCount n k) (messageFrom b k)) x z (nodesBefore n k) (nodesBefore n (k + 1)) = rw (before-next n k, f) q in
+      added-as (each-next (λ j. messageMetrics (entryCount n j) (messageFrom b j)) k) (added-on p r)
+
+  -- all of them
+  pub passed-all : {x : List ℕ} → Added (passedMetrics n b (messageCount n)) e x 0 (nodesBefore n (messageCount n)) → Added (bufferMetrics n b) e x 0 n
+  unfolding bufferMetrics
+  passed-all h = rw (before-all n) at h
+
+-- message k, read in the rest of the bytes, which is lent from its place on
+rest-whole : (b : List ℕ) (o : ℕ) → take (length b - o) (drop o b) ≡ drop o b
+rest-whole b o = take-all (length b - o) (drop o b) (omega (arith, length-drop o b))
+
+module _ (base n k count : ℕ) (b entry exit : List ℕ) (r : Bool) (is : count ≡ entryCount n k)
+    (read : MessageRead base (firstNode k) count (take (length b - k * fullLength) (drop (k * fullLength) b)) entry exit r) where
+  message-there : MessageRead base (firstNode k) (entryCount n k) (messageFrom b k) entry exit r
+  message-there = rw (is, rest-whole b (k * fullLength)) at read
+
+  pub message-fault : r ≡ false → messageFault base (firstNode k) (entryCount n k) (messageFrom b k) ≡ true
+  message-fault e = not-false _ (sym (message-there .right) ∙ e)
+
+  pub message-stored : r ≡ true
+      → (messageFault base (firstNode k) (entryCount n k) (messageFrom b k) ≡ false) ×
+      Added (messageMetrics (entryCount n k) (messageFrom b k)) entry exit (firstNode k) (firstNode k + entryCount n k)
+  message-stored e = (not-true _ (sym (message-there .right) ∙ e), message-there .left e)

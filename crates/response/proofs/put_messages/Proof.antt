@@ -1,0 +1,75 @@
+-- `response::put_messages` meets its contract. The loop's invariant: the messages passed stand at the front.
+-- Assumes nothing.
+use native.Mathlib.Omega.{arith}
+use Prim.Native.Nat.{ℕ, _+_, _*_, _-_, _≤_}
+use mathlib.Core.Path.{_≡_, refl, subst}
+use lib.ListN.{length}
+use denote.Ref.{now}
+use Rattle.memory.specs.Layout.{view}
+use Rattle.memory.proofs.Laws.{few}
+use Rattle.records.specs.Image.{each}
+use Rattle.records.proofs.Each.{each-zero, each-next}
+use Rattle.filling.specs.Filling.{Wrote, Added}
+use Rattle.filling.proofs.Parts.{added-none, added-as, added-on, added-long, added-front}
+use Rattle.response.specs.Messages.{headerLength, entryLength, message, firstNode, entryCount, messageCount, messages, rowMessages}
+use Rattle.response.specs.Inner.{nodeMetrics}
+use Rattle.response.proofs.Sizes.{nodesBefore, before-size, message-room}
+use Rattle.response.proofs.put_messages.Statement.{statement}
+use Rattle.response.proofs.put_messages.Tie as tie
+
+abbrev Inv-loop : tie.InvT-loop
+Inv-loop net base n out₀ count at₀ k₀ out at k =
+    Added (each (λ j. message base (nodeMetrics (view net)) (firstNode j) (entryCount n j)) 0 k) out₀ out 0 at × (k ≤ count) × (length out ≡ length out₀)
+
+abbrev μ-loop : tie.MeasureT-loop
+μ-loop net base n out₀ count at₀ k₀ out at k = count - k
+
+message-count-requires : tie.Need-message-count-requires Inv-loop μ-loop
+message-count-requires c κs = omega (arith, few (now (c .before .args .net)), c .before .pre)
+
+loop-holds : tie.Need-loop-holds Inv-loop μ-loop
+loop-holds c = (added-none _ 0 (each-zero _ 0) (omega arith), omega arith, refl)
+
+put-message-requires : tie.Need-put-message-requires Inv-loop μ-loop
+put-message-requires c κs =
+    let l = c .before .before .loop in
+    let s = c .before .before .before .before .before in
+    let a = s .args in
+    let count = c .before .before .before .message-count .ensures in
+    (s .pre .0, (s .pre .1 .0, (omega (arith, count),
+    omega (arith, count, l .inv, l .inv .0 .place, before-size (a .n) (a .base) (nodeMetrics (view (now (a .net)))) (l .k), message-room (a .n) (l .k) (omega (arith, count)), s .pre .1 .1))))
+
+loop-again : tie.Need-loop-again Inv-loop μ-loop
+loop-again c =
+    let put = c .before .before in
+    let l = put .before .before .before .loop in
+    (added-as (each-next _ (l .k)) (added-on (l .inv .0) (put .put-message .ensures)), omega arith, omega arith)
+
+same-length : tie.Need-same-length Inv-loop μ-loop
+same-length c = c .before .loop .inv .2
+
+returns : tie.Need-returns Inv-loop μ-loop
+unfolding rowMessages messages
+returns c =
+    let l = c .before .loop in
+    let s = c .before .before .before .before in
+    let a = s .args in
+    let f = nodeMetrics (view (now (a .net))) in
+    let e : l .k ≡ messageCount (a .n) = omega (arith, c .before .before .message-count .ensures) in
+    subst (λ (n : ℕ). Wrote (each (λ j. message (a .base) f (firstNode j) (entryCount n j)) 0 (messageCount n)) (now (a .out)) (l .out) (l .at)) (s .pre .1 .0)
+    (subst (λ (k : ℕ). Wrote (each (λ j. message (a .base) f (firstNode j) (entryCount (a .n) j)) 0 k) (now (a .out)) (l .out) (l .at)) e (added-front (l .inv .0)))
+
+pub put-messages-spec : {M : Type 1} → statement M
+put-messages-spec =
+    tie.close
+    (tie.spec
+    Inv-loop
+    μ-loop
+    message-count-requires
+    loop-holds
+    put-message-requires
+    (λ c. omega arith)
+    (λ c. omega arith)
+    loop-again
+    same-length
+    returns)
