@@ -4,19 +4,21 @@ use mathlib.Core.Path.{_≡_, refl, sym, ap, _∙_}
 use mathlib.Core.Bool.{Bool, true, false, cond, not, _||_, or-true}
 use mathlib.Core.List.{List, [], _++_}
 use mathlib.Core.Logic.{_⊎_, inl, inr, _≢_}
-use Prim.Native.Nat.{ℕ, _%_, _<_, _≤_}
+use Prim.Native.Nat.{ℕ, _+_, _-_, _%_, _<_, _≤_}
+use native.Mathlib.Nat.{zero-add}
 use native.Mathlib.Omega.{arith}
 use lib.Dec.{eqb, ltb}
-use lib.ListN.{length, drop}
+use lib.ListN.{length, drop, replicate, length-replicate, replicate-append-replicate}
+use lib.Seq.{drop-at}
 use borrow.Author.Tests.{eq-eqb, eqb-true, ne-eqb, eqb-false, lt-ltb, le-ltb, ltb-false, not-false}
 use Rattle.ancestors.proofs.Cases.{eq-or-ne, or-neither}
 use Rattle.network.specs.Faults.{maxNodes}
 use Rattle.network.specs.Network.{Net}
 use Rattle.network.specs.Writing.{writing, Writes}
 use Rattle.network.proofs.Effects.{writing-refused, writing-accepted}
-use Rattle.filling.specs.Filling.{Wrote}
+use Rattle.filling.specs.Filling.{Wrote, Added}
 use Rattle.response.specs.Messages.{messagesLength, baseFault, countFault, givenThen, rowMessages, writeNumber, writeOf}
-use Rattle.response.specs.Reading.{bufferFault, bufferMetrics, Reading, readNumber, reading, readOf}
+use Rattle.response.specs.Reading.{bufferFault, bufferMetrics, Reading, readNumber, reading, readOf, places}
 use Rattle.response.proofs.Sizes.{messages-size}
 
 -- ---- what is given
@@ -183,3 +185,21 @@ module _ (base n : ℕ) (b : List ℕ) where
       let g = given-says base n (cond (bufferFault base n b) 14 0) k in
       let f = faultless (bufferFault base n b) (sym (given-right base n _ (g .0) (g .1)) ∙ k) in
       (g .0, g .1, f, rw (given-right base n (cond (bufferFault base n b) 14 0) (g .0) (g .1), f) at (ap (λ (o : Reading). o .metrics) e))
+
+  -- a wrong length is 14
+  pub wrong-length : length b ≢ messagesLength n → bufferFault base n b ≡ true
+  unfolding bufferFault
+  wrong-length h = rw (ne-eqb (length b) (messagesLength n) h)
+
+-- n metrics stored in the first of 32 places
+zeros-left : (n : ℕ) → n ≤ maxNodes → drop {A = ℕ} n (replicate maxNodes 0) ≡ replicate (maxNodes - n) 0
+zeros-left n h =
+    let e : n + (maxNodes - n) ≡ maxNodes = omega arith in
+    ap {A = List ℕ} (drop n) (sym (replicate-append-replicate n (maxNodes - n) 0 ∙ ap {B = List ℕ} (λ (k : ℕ). replicate k 0) e)) ∙
+    drop-at {A = ℕ} (replicate n 0) (replicate (maxNodes - n) 0) n (length-replicate {A = ℕ} n 0)
+
+pub stored-places : (n : ℕ) {ms x : List ℕ} → n ≤ maxNodes → Added ms (replicate maxNodes 0) x 0 n → (n ≡ length ms) × (x ≡ places ms)
+unfolding places
+stored-places n {ms} {x} h a =
+    let e : n ≡ length ms = a .place ∙ zero-add (length ms) in
+    (e, a .left ∙ rw (zeros-left n h, e))

@@ -34,13 +34,14 @@ module _ (base n : ℕ) (bs ms : List ℕ) (word : base < 2 ^ 32) (bytes : Bytes
 
   accepted-only : Given base n × Metrics n ms × (bs ≡ messagesFor base n ms)
   accepted-only =
-      let s = read-says base n bs accepts in
-      (record { word = word; base-right = s .0; count-right = s .1 },
-      record {
-        size = ap length metrics-are ∙ ones-size (nodeMetric bs) 0 n;
-        range = λ y h. ap metricFault (at-node y h) ∙ node-metric-right base n bs bytes (s .2) y h;
-      },
-      buffer-back base n bs bytes (s .2) (λ y. getD ms y 0) at-node)
+      let s = read-says base n bs accepts in (
+        record { word = word; base-right = s .0; count-right = s .1 },
+        record {
+          size = ap length metrics-are ∙ ones-size (nodeMetric bs) 0 n;
+          range = λ y h. ap metricFault (at-node y h) ∙ node-metric-right base n bs bytes (s .2) y h;
+        },
+        buffer-back base n bs bytes (s .2) (λ y. getD ms y 0) at-node,
+      )
 
 -- ---- messages are accepted with their metrics
 
@@ -59,7 +60,7 @@ reads-written =
     record {
       only = accepted-only;
       all = λ base n ms g m.
-      messages-accepted base (λ y. getD ms y 0) n g (m .range) ∙ rw (ones-list ms n (m .size));
+          messages-accepted base (λ y. getD ms y 0) n g (m .range) ∙ rw (ones-list ms n (m .size));
     }
 
 -- ---- what is written for a network

@@ -35,8 +35,8 @@ const MOST_ENTRIES: usize = 25;
 const FULL_LENGTH: usize = HEADER_LENGTH + MOST_ENTRIES * ENTRY_LENGTH;
 
 // The bytes of the messages of the most nodes: an output of so many is always enough.
-pub const MAX_MESSAGES: usize =
-    (NODES + MOST_ENTRIES - 1) / MOST_ENTRIES * HEADER_LENGTH + NODES * ENTRY_LENGTH;
+pub const MAX_MESSAGES: usize = (NODES + MOST_ENTRIES - 1) / MOST_ENTRIES * HEADER_LENGTH
+    + NODES * ENTRY_LENGTH;
 
 // Command 2, version 2 and two bytes of 0 as one number; address family 2 and tag 0 as one; the mask 255.255.255.255.
 const HEADER_WORD: u32 = 0x0202_0000;
@@ -163,7 +163,14 @@ fn put_entry(a: u32, m: u32, out: &mut [u8]) -> usize
 }
 
 // The entries of the nodes from `first` on, from a place of the output on; answers the place after them.
-fn put_entries(net: &Network, base: u32, first: usize, count: usize, out: &mut [u8], start: usize) -> usize
+fn put_entries(
+    net: &Network,
+    base: u32,
+    first: usize,
+    count: usize,
+    out: &mut [u8],
+    start: usize,
+) -> usize
     requires { ⌜ Sound base ⌝ }
     requires { ⌜ first + count ≤ view (now net) .nodes ⌝ }
     requires { ⌜ start + count * entryLength ≤ length (now out) ⌝ }
@@ -173,7 +180,12 @@ fn put_entries(net: &Network, base: u32, first: usize, count: usize, out: &mut [
     let mut i: usize = 0;
     while i < count {
         let node = first + i;
-        at = at + put_entry(node_address(base, node), node_metric(net, node), &mut out[at..]);
+        at = at
+            + put_entry(
+                node_address(base, node),
+                node_metric(net, node),
+                &mut out[at..],
+            );
         i = i + 1;
     }
     at
@@ -312,7 +324,13 @@ fn read_buffer(bytes: &[u8], base: u32, n: usize, metrics: &mut [u8]) -> bool
     let mut k: usize = 0;
     while k < count {
         let at = k * FULL_LENGTH;
-        let right = read_message(&bytes[at..], base, k * MOST_ENTRIES, entry_count(n, k), metrics);
+        let right = read_message(
+            &bytes[at..],
+            base,
+            k * MOST_ENTRIES,
+            entry_count(n, k),
+            metrics,
+        );
         if !right {
             return false;
         }

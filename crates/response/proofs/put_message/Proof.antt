@@ -39,9 +39,13 @@ put-entries-requires c κs =
     let count = c .before .entry-count in
     let d = c .before .before .before .before in
     let s = d .before .before .before .before in
-    let w = copied-rest _ (now (s .args .out)) (s .args .start) (omega arith) (d .copy .ensures) in
-    (s .pre .0, (omega (arith, count .ensures, entry-count-within (s .args .n) (s .args .k) (s .pre .1 .1 .0), s .pre .1 .0),
-    added-fits (count .result * entryLength) (rest-added (now (s .args .out)) (s .args .start) (omega arith) w) (omega (arith, count .ensures, w .used, s .pre .1 .1 .1))))
+    let w = copied-rest _ (now (s .args .out)) (s .args .start) (omega arith) (d .copy .ensures) in (
+      s .pre .0,
+      (
+        omega (arith, count .ensures, entry-count-within (s .args .n) (s .args .k) (s .pre .1 .1 .0), s .pre .1 .0),
+        added-fits (count .result * entryLength) (rest-added (now (s .args .out)) (s .args .start) (omega arith) w) (omega (arith, count .ensures, w .used, s .pre .1 .1 .1)),
+      ),
+    )
 
 returns : tie.Need-returns
 unfolding message header be8 be16

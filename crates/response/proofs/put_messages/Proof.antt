@@ -35,9 +35,16 @@ put-message-requires c κs =
     let l = c .before .before .loop in
     let s = c .before .before .before .before .before in
     let a = s .args in
-    let count = c .before .before .before .message-count .ensures in
-    (s .pre .0, (s .pre .1 .0, (omega (arith, count),
-    omega (arith, count, l .inv, l .inv .0 .place, before-size (a .n) (a .base) (nodeMetrics (view (now (a .net)))) (l .k), message-room (a .n) (l .k) (omega (arith, count)), s .pre .1 .1))))
+    let count = c .before .before .before .message-count .ensures in (
+      s .pre .0,
+      (
+        s .pre .1 .0,
+        (
+          omega (arith, count),
+          omega (arith, count, l .inv, l .inv .0 .place, before-size (a .n) (a .base) (nodeMetrics (view (now (a .net)))) (l .k), message-room (a .n) (l .k) (omega (arith, count)), s .pre .1 .1),
+        ),
+      ),
+    )
 
 loop-again : tie.Need-loop-again Inv-loop μ-loop
 loop-again c =

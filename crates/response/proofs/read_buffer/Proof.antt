@@ -78,11 +78,12 @@ loop-again c =
     let a = read .before .before .before .before .before .before .before .before .before .args in
     let b = now (a .bytes) in
     let p : l .k < messageCount (a .n) = omega (arith, read .before .before .before .before .before .before .message-count .ensures) in
-    let m = message-stored (a .base) (a .n) (l .k) (count .result) b _ _ _ (count .ensures) (read .read-message .ensures) (not-false _ (c .if1 .left)) in
-    (some-more (λ j. messageFault (a .base) (firstNode j) (entryCount (a .n) j) (messageFrom b j)) (l .k) (l .inv .0) (m .0),
-    passed-next (a .n) b (now (a .metrics)) (l .k) p (l .inv .1) (m .1),
-    omega arith,
-    omega arith)
+    let m = message-stored (a .base) (a .n) (l .k) (count .result) b _ _ _ (count .ensures) (read .read-message .ensures) (not-false _ (c .if1 .left)) in (
+      some-more (λ j. messageFault (a .base) (firstNode j) (entryCount (a .n) j) (messageFrom b j)) (l .k) (l .inv .0) (m .0),
+      passed-next (a .n) b (now (a .metrics)) (l .k) p (l .inv .1) (m .1),
+      omega arith,
+      omega arith,
+    )
 
 returns-2 : tie.Need-returns-2 Inv-loop μ-loop
 returns-2 c =

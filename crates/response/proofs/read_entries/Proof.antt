@@ -54,11 +54,12 @@ loop-again c =
     let at = headerLength + l .i * entryLength in
     let m = read .read-entry .result in
     let r = other-right (at + entryLength - at) (entryFrom b (l .i)) (omega arith) (address-of .result) m (read .read-entry .ensures) (c .if1 .left) in
-    let f = subst (λ (z : ℕ). entryFault z (entryFrom b (l .i)) ≡ false) (address-of .ensures) (r .0) in
-    (some-more (λ j. entryFault (address (a .base) (a .first + j)) (entryFrom b j)) (l .i) (l .inv .0) f,
-    metrics-next b (now (a .metrics)) (a .first) (l .i) m (l .inv .1) (omega arith) (r .1) (r .2),
-    omega arith,
-    simp length-set (omega arith))
+    let f = subst (λ (z : ℕ). entryFault z (entryFrom b (l .i)) ≡ false) (address-of .ensures) (r .0) in (
+      some-more (λ j. entryFault (address (a .base) (a .first + j)) (entryFrom b j)) (l .i) (l .inv .0) f,
+      metrics-next b (now (a .metrics)) (a .first) (l .i) m (l .inv .1) (omega arith) (r .1) (r .2),
+      omega arith,
+      simp length-set (omega arith),
+    )
 
 returns-2 : tie.Need-returns-2 Inv-loop μ-loop
 returns-2 c =
