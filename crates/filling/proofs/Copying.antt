@@ -9,7 +9,7 @@ use lib.ListN.{length, take, drop, set, getD}
 use lib.Seq.{length-take-le, take-suc, drop-cons, set-at}
 use borrow.Author.Tests.{lt-ltb, le-ltb}
 use Rattle.filling.specs.Filling.{Wrote, copied}
-use Rattle.filling.proofs.Parts.{wrote-as, rest-room}
+use Rattle.filling.proofs.Parts.{wrote-as, rest-room, part-size}
 
 -- one byte more of the bytes b is copied
 pub wrote-next : (b e x : List ℕ) (i : ℕ) → Wrote (take i b) e x i → i < length b → i < length e → Wrote (take (i + 1) b) e (set x i (getD b i 0)) (i + 1)
@@ -42,3 +42,8 @@ module _ (b e : List ℕ) where
 pub copied-rest : (b e : List ℕ) (a : ℕ) {x : List ℕ} {r : ℕ} → a + length b ≤ length e
     → Wrote (copied b (take (length e - a) (drop a e))) (take (length e - a) (drop a e)) x r → Wrote b (take (length e - a) (drop a e)) x r
 copied-rest b e a m h = wrote-all b (take (length e - a) (drop a e)) (rest-room e a (omega arith) (length b) m) h
+
+-- in a part of an output that is lent from a place on and has room for them
+pub copied-part : (b e : List ℕ) (a k : ℕ) {x : List ℕ} {r : ℕ} → length b ≤ k → a + k ≤ length e
+    → Wrote (copied b (take k (drop a e))) (take k (drop a e)) x r → Wrote b (take k (drop a e)) x r
+copied-part b e a k m n h = wrote-all b (take k (drop a e)) (omega (arith, part-size e a k n)) h

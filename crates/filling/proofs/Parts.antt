@@ -6,7 +6,7 @@ use Prim.Native.Nat.{ℕ, suc, _+_, _-_, _<_, _≤_}
 use native.Mathlib.Nat.{zero-add}
 use native.Mathlib.Numerals.{add-one}
 use native.Mathlib.Omega.{arith}
-use lib.ListN.{length, take, drop, set, getD, length-append, length-drop, take-append-drop, drop-of-length-le}
+use lib.ListN.{length, take, drop, set, getD, length-append, length-take, length-drop, take-append-drop, drop-of-length-le}
 use lib.Seq.{length-take-le, take-at, drop-at, drop-cons, set-at, take-all, drop-drop}
 use Rattle.filling.specs.Filling.{Wrote, Added}
 
@@ -115,6 +115,26 @@ added-then {w} {v} {e} {x} {y} {a} {b} {k} h g =
       within = h .within;
       place = omega (arith, h .place, g .used, length-append w v);
       left = wrote-then (added-wrote h) g .left ∙ simp append-assoc;
+    }
+
+-- a part of k bytes, lent from a on, has that length
+pub part-size : (e : List ℕ) (a k : ℕ) → a + k ≤ length e → length (take k (drop a e)) ≡ k
+part-size e a k h = simp (length-take, length-drop) (omega arith)
+
+-- more bytes, written in a part that is lent from b on and has just room for them
+pub added-part : {w v e x y : List ℕ} {a b k r : ℕ} → Added w e x a b → Wrote v (take k (drop b x)) y r → length v ≡ k → b + k ≤ length e
+    → Added (w ++ v) e (take b x ++ (y ++ drop k (drop b x))) a (b + r)
+added-part {w} {v} {e} {x} {y} {a} {b} {k} {r} h g l m =
+    let z : r ≡ k = g .used ∙ l in
+    let n : length x ≡ length e = added-long h (omega arith) in
+    let o : length (take k (drop b x)) ≤ k = omega (arith, length-take k (drop b x)) in
+    let u : y ≡ v = g .left ∙ ap (λ (i : ℕ). v ++ drop i (take k (drop b x))) z ∙ rw (drop-of-length-le (take k (drop b x)) {i = k} o, append-nil v) in
+    let t : take b x ≡ take a e ++ w = ap (take b) (added-wrote h .left) ∙ take-at (take a e ++ w) (drop b e) b (sym (added-wrote h .used)) in
+    let d : drop b x ≡ drop b e = ap (drop b) (added-wrote h .left) ∙ drop-at (take a e ++ w) (drop b e) b (sym (added-wrote h .used)) in
+    record {
+      within = h .within;
+      place = omega (arith, h .place, g .used, length-append w v);
+      left = rw (u, t, d, drop-drop k b e, z) (simp append-assoc);
     }
 
 -- bytes written at the front, and others from the place after them on

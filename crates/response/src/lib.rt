@@ -177,15 +177,12 @@ fn put_entries(
     ensures { λ r. ⌜ Added (entries base (nodeMetrics (view (now (net .entry)))) first count) (now (out .entry)) (now (out .exit)) start r ⌝ }
 {
     let mut at = start;
+    let mut a = base + first as u32;
     let mut i: usize = 0;
     while i < count {
-        let node = first + i;
-        at = at
-            + put_entry(
-                node_address(base, node),
-                node_metric(net, node),
-                &mut out[at..],
-            );
+        a = a + 1;
+        let m = node_metric(net, first + i);
+        at = at + put_entry(a, m, &mut out[at..at + ENTRY_LENGTH]);
         i = i + 1;
     }
     at
@@ -199,7 +196,7 @@ fn put_message(net: &Network, base: u32, n: usize, k: usize, out: &mut [u8], sta
     requires { ⌜ start + (headerLength + entryCount n k * entryLength) ≤ length (now out) ⌝ }
     ensures { λ r. ⌜ Added (message base (nodeMetrics (view (now (net .entry)))) (firstNode k) (entryCount n k)) (now (out .entry)) (now (out .exit)) start r ⌝ }
 {
-    let at = start + filling::copy(&[2, 2, 0, 0], &mut out[start..]);
+    let at = start + filling::copy(&[2, 2, 0, 0], &mut out[start..start + HEADER_LENGTH]);
     put_entries(net, base, k * MOST_ENTRIES, entry_count(n, k), out, at)
 }
 

@@ -1,67 +1,59 @@
--- `response::put_entries` meets its contract. The loop's invariant: the entries of the nodes passed stand from the start on, 20 bytes each.
+-- `response::put_entries` meets its contract. The loop's invariant: the entries of the nodes passed stand from the start on, 20 bytes each, and the
+-- address is the last one's.
 -- Assumes nothing.
 use native.Mathlib.Omega.{arith}
 use Prim.Native.Nat.{_+_, _*_, _-_, _≤_}
-use mathlib.Core.Path.{_≡_, refl, sym, subst, _∙_}
-use lib.ListN.{length}
+use mathlib.Core.Path.{_≡_, refl, sym, ap₂, subst, _∙_}
+use mathlib.Core.List.{_++_}
+use lib.ListN.{length, length-take, length-drop}
 use denote.Ref.{now}
 use Rattle.memory.specs.Layout.{view}
 use Rattle.memory.proofs.Laws.{few}
 use Rattle.filling.specs.Filling.{Added}
-use Rattle.filling.proofs.Parts.{added-none, added-as, added-long, added-room, added-then}
-use Rattle.response.specs.Messages.{entries, entryLength}
+use Rattle.filling.proofs.Parts.{added-none, added-as, added-long, added-part}
+use Rattle.response.specs.Messages.{address, entries, entry, entryLength}
 use Rattle.response.specs.Inner.{nodeMetrics}
 use Rattle.response.proofs.Sizes.{entry-size, entries-none, entries-next}
 use Rattle.response.proofs.put_entries.Statement.{statement}
 use Rattle.response.proofs.put_entries.Tie as tie
 
 abbrev Inv-loop : tie.InvT-loop
-Inv-loop net base first count out₀ start at₀ i₀ out at i =
-    Added (entries base (nodeMetrics (view net)) first i) out₀ out start at × (at ≡ start + i * entryLength) × (i ≤ count) × (length out ≡ length out₀)
+Inv-loop net base first count out₀ start at₀ a₀ i₀ out at a i =
+    Added (entries base (nodeMetrics (view net)) first i) out₀ out start at × (at ≡ start + i * entryLength) × (a ≡ base + first + i) × (i ≤ count) × (length out ≡ length out₀)
 
 abbrev μ-loop : tie.MeasureT-loop
-μ-loop net base first count out₀ start at₀ i₀ out at i = count - i
+μ-loop net base first count out₀ start at₀ a₀ i₀ out at a i = count - i
 
 loop-holds : tie.Need-loop-holds Inv-loop μ-loop
 loop-holds c =
     let a = c .before .args in
-    (added-none (now (a .out)) (a .start) (entries-none (a .base) (nodeMetrics (view (now (a .net)))) (a .first)) (omega arith), omega arith, omega arith, refl)
-
-node-address-requires : tie.Need-node-address-requires Inv-loop μ-loop
-node-address-requires c κs =
-    let s = c .before .before .before in
-    (s .pre .0, omega (arith, few (now (s .args .net)), s .pre .1 .0))
-
-node-metric-requires : tie.Need-node-metric-requires Inv-loop μ-loop
-node-metric-requires c κs = omega arith
+    (added-none (now (a .out)) (a .start) (entries-none (a .base) (nodeMetrics (view (now (a .net)))) (a .first)) (omega arith), omega arith, omega arith, omega arith, refl)
 
 put-entry-requires : tie.Need-put-entry-requires Inv-loop μ-loop
-put-entry-requires c κs =
-    let l = c .before .before .before .before .loop in
-    added-room entryLength (l .inv .0) (omega arith)
+put-entry-requires c κs = simp (length-take, length-drop) (omega arith)
 
 add-at : tie.Need-add-at Inv-loop μ-loop
 add-at c =
     let put = c .before .before in
     let metric = put .before .before in
-    let address = metric .before in
-    let s = address .before .before .before .before in
-    omega (arith, put .put-entry .ensures .used, entry-size (address .node-address .result) (metric .node-metric .result), s .pre, s .good)
+    let l = metric .before .before .loop in
+    let s = metric .before .before .before .before in
+    omega (arith, put .put-entry .ensures .used, entry-size (l .a + 1) (metric .node-metric .result), l .inv, s .pre, s .good)
 
 loop-again : tie.Need-loop-again Inv-loop μ-loop
+unfolding address
 loop-again c =
     let put = c .before .before in
     let metric = put .before .before in
-    let address = metric .before in
-    let l = address .before .before .loop in
-    let a = address .before .before .before .before .args in
-    let e = entries-next (a .base) (nodeMetrics (view (now (a .net)))) (a .first) (l .i) in
-    let w = added-as (e ∙ sym (cc (address .node-address .ensures, metric .node-metric .ensures))) (added-then (l .inv .0) (put .put-entry .ensures)) in
-    let k = entry-size (address .node-address .result) (metric .node-metric .result) in
-    (w, omega (arith, put .put-entry .ensures .used, k), omega arith, added-long w (omega (arith, put .put-entry .ensures .used, k)))
-
-same-length : tie.Need-same-length Inv-loop μ-loop
-same-length c = c .before .loop .inv .3
+    let l = metric .before .before .loop in
+    let s = metric .before .before .before .before in
+    let a = s .args in
+    let f = nodeMetrics (view (now (a .net))) in
+    let z : a .base + (a .first + l .i) + 1 ≡ l .a + 1 = omega arith in
+    let k = entry-size (l .a + 1) (metric .node-metric .result) in
+    let e = entries-next (a .base) f (a .first) (l .i) ∙ ap₂ (λ d m. entries (a .base) f (a .first) (l .i) ++ entry d m) z (sym (metric .node-metric .ensures)) in
+    let w = added-as e (added-part {k = l .at + entryLength - l .at} (l .inv .0) (put .put-entry .ensures) (omega (arith, k)) (omega arith)) in
+    (w, omega (arith, put .put-entry .ensures .used, k), omega arith, omega arith, added-long w (omega (arith, put .put-entry .ensures .used, k)))
 
 returns : tie.Need-returns Inv-loop μ-loop
 returns c =
@@ -76,10 +68,13 @@ put-entries-spec =
     (tie.spec
     Inv-loop
     μ-loop
+    (λ c. omega (arith, few (now (c .before .args .net))))
+    (λ c. omega (arith, few (now (c .before .args .net))))
     loop-holds
     (λ c. omega (arith, few (now (c .before .before .before .args .net))))
-    node-address-requires
-    node-metric-requires
+    (λ c. omega (arith, few (now (c .before .before .before .args .net))))
+    (λ c κs. omega arith)
+    (λ c. omega arith)
     (λ c. omega arith)
     (λ c. omega arith)
     (λ c. omega arith)
@@ -88,5 +83,5 @@ put-entries-spec =
     (λ c. omega arith)
     (λ c. omega arith)
     loop-again
-    same-length
+    (λ c. c .before .loop .inv .4)
     returns)
