@@ -4,7 +4,7 @@ use mathlib.Core.Path.{_≡_, refl, sym, ap, _∙_}
 use mathlib.Core.Bool.{Bool, true, false, cond, not, _||_}
 use mathlib.Core.List.{List, [], _∷_, _++_}
 use mathlib.Core.Logic.{_⊎_, inl, inr, _≢_}
-use Prim.Native.Nat.{ℕ, suc, _+_, _*_, _^_, _<_, _≤_}
+use Prim.Native.Nat.{ℕ, suc, _+_, _*_, _/_, _%_, _^_, _<_, _≤_}
 use native.Mathlib.Numerals.{add-one}
 use native.Mathlib.Omega.{arith}
 use lib.Dec.{eqb, ltb}
@@ -144,6 +144,24 @@ module _ (a : ℕ) (b : List ℕ) where
       (take-next 4 12 b 4 ∙ ap (λ l. take 4 (drop 4 b) ++ l)
       (take-next 4 8 b 8 ∙ ap (λ l. take 4 (drop 8 b) ++ l)
       (take-next 4 4 b 12)))))
+
+-- the bytes of an entry of a small metric, one by one
+small32 : (m : ℕ) → m < 256 → be32 m ≡ 0 ∷ 0 ∷ 0 ∷ m ∷ []
+small32 m h =
+    let e : m ≡ (0 * 256 + 0) * 65536 + (0 * 256 + m) = omega arith in
+    ap be32 e ∙ be32-of 0 0 0 m (omega arith) (omega arith) (omega arith) h
+
+abbrev pub entryFront : ℕ → List ℕ → List ℕ
+entryFront a t =
+    0 ∷ 2 ∷ 0 ∷ 0 ∷ a / 65536 / 256 % 256 ∷ a / 65536 % 256 ∷ a / 256 % 256 ∷ a % 256 ∷ 255 ∷ 255 ∷ 255 ∷ 255 ∷ 0 ∷ 0 ∷ 0 ∷ 0 ∷ t
+
+front : (a : ℕ) (t : List ℕ) → be16 2 ++ (be16 0 ++ (be32 a ++ (be32 mask ++ (be32 0 ++ t)))) ≡ entryFront a t
+unfolding be32 be16 be8
+front a t = refl
+
+pub entry-bytes : (a m : ℕ) → m < 256 → entry a m ≡ entryFront a (0 ∷ 0 ∷ 0 ∷ m ∷ [])
+unfolding entry
+entry-bytes a m h = front a (be32 m) ∙ ap (entryFront a) (small32 m h)
 
 -- an entry that was written, whatever follows it
 module _ (a m : ℕ) (r : List ℕ) (word : a < 2 ^ 32) (right : metricFault m ≡ false) where

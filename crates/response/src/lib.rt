@@ -4,16 +4,17 @@
 // call writes nothing. No public function has a precondition.
 ghost use mathlib.Core.Path.{_≡_};
 ghost use mathlib.Core.Bool.{cond};
-ghost use mathlib.Core.List.{[]};
+ghost use mathlib.Core.List.{[], _∷_};
 ghost use Prim.Native.Nat.{_+_, _*_, _<_, _≤_};
 ghost use lib.ListN.{length};
 ghost use Rattle.network.specs.Faults.{maxNodes};
 ghost use Rattle.network.specs.Writing.{Writes};
 ghost use Rattle.memory.specs.Layout.{view};
+ghost use Rattle.records.specs.Image.{each};
 ghost use Rattle.filling.specs.Filling.{Wrote, Added};
-ghost use Rattle.response.specs.Messages.{hopsMetric, metric, address, entry, entryLength, headerLength, entries, message, firstNode, entryCount, messageCount, messagesLength, givenThen, rowMessages, writeOf};
-ghost use Rattle.response.specs.Reading.{entryFault, entryMetric, readOf, Reads};
-ghost use Rattle.response.specs.Inner.{Sound, nodeMetrics, EntriesRead, MessageRead, BufferRead};
+ghost use Rattle.response.specs.Messages.{hopsMetric, metric, address, entry, entryLength, headerLength, entries, message, firstNode, entryCount, messageCount, messages, messagesLength, givenThen, writeOf};
+ghost use Rattle.response.specs.Reading.{entryFault, entryMetric, readOf, places, Reads};
+ghost use Rattle.response.specs.Inner.{Sound, by, EntriesRead, MessageRead, BufferRead};
 use memory::Network;
 use memory::RowRead;
 use network::Written;
@@ -132,8 +133,22 @@ fn node_metric(net: &Network, node: usize) -> u32
     }
 }
 
+// The metrics of the first n nodes, in their places.
+fn row_metrics(net: &Network, n: usize) -> [u8; NODES]
+    requires { ⌜ n ≤ view (now net) .nodes ⌝ }
+    ensures { λ r. ⌜ r ≡ places (each (λ y. metric (view (now (net .entry)) .row y) ∷ []) 0 n) ⌝ }
+{
+    let mut metrics = [0u8; NODES];
+    let mut y: usize = 0;
+    while y < n {
+        metrics[y] = (node_metric(net, y) % 256) as u8;
+        y = y + 1;
+    }
+    metrics
+}
+
 // An entry at the front of a part, with the bytes used as the answer.
-fn put_entry(a: u32, m: u32, out: &mut [u8]) -> usize
+fn put_entry(a: u32, m: u8, out: &mut [u8]) -> usize
     requires { ⌜ entryLength ≤ length (now out) ⌝ }
     ensures { λ r. ⌜ Wrote (entry a m) (now (out .entry)) (now (out .exit)) r ⌝ }
 {
@@ -154,17 +169,17 @@ fn put_entry(a: u32, m: u32, out: &mut [u8]) -> usize
         0,
         0,
         0,
-        (m / 65536 / 256 % 256) as u8,
-        (m / 65536 % 256) as u8,
-        (m / 256 % 256) as u8,
-        (m % 256) as u8,
+        0,
+        0,
+        0,
+        m,
     ];
     filling::copy(&bytes, out)
 }
 
 // The entries of the nodes from `first` on, from a place of the output on; answers the place after them.
 fn put_entries(
-    net: &Network,
+    metrics: &[u8; NODES],
     base: u32,
     first: usize,
     count: usize,
@@ -172,46 +187,56 @@ fn put_entries(
     start: usize,
 ) -> usize
     requires { ⌜ Sound base ⌝ }
-    requires { ⌜ first + count ≤ view (now net) .nodes ⌝ }
+    requires { ⌜ first + count ≤ maxNodes ⌝ }
     requires { ⌜ start + count * entryLength ≤ length (now out) ⌝ }
-    ensures { λ r. ⌜ Added (entries base (nodeMetrics (view (now (net .entry)))) first count) (now (out .entry)) (now (out .exit)) start r ⌝ }
+    ensures { λ r. ⌜ Added (entries base (by (now (metrics .entry))) first count) (now (out .entry)) (now (out .exit)) start r ⌝ }
 {
     let mut at = start;
-    let mut a = base + first as u32;
     let mut i: usize = 0;
     while i < count {
-        a = a + 1;
-        let m = node_metric(net, first + i);
-        at = at + put_entry(a, m, &mut out[at..at + ENTRY_LENGTH]);
+        let node = first + i;
+        at = at
+            + put_entry(
+                node_address(base, node),
+                metrics[node],
+                &mut out[at..at + ENTRY_LENGTH],
+            );
         i = i + 1;
     }
     at
 }
 
 // Message k of n nodes.
-fn put_message(net: &Network, base: u32, n: usize, k: usize, out: &mut [u8], start: usize) -> usize
+fn put_message(
+    metrics: &[u8; NODES],
+    base: u32,
+    n: usize,
+    k: usize,
+    out: &mut [u8],
+    start: usize,
+) -> usize
     requires { ⌜ Sound base ⌝ }
-    requires { ⌜ n ≡ view (now net) .nodes ⌝ }
+    requires { ⌜ n ≤ maxNodes ⌝ }
     requires { ⌜ k < messageCount n ⌝ }
     requires { ⌜ start + (headerLength + entryCount n k * entryLength) ≤ length (now out) ⌝ }
-    ensures { λ r. ⌜ Added (message base (nodeMetrics (view (now (net .entry)))) (firstNode k) (entryCount n k)) (now (out .entry)) (now (out .exit)) start r ⌝ }
+    ensures { λ r. ⌜ Added (message base (by (now (metrics .entry))) (firstNode k) (entryCount n k)) (now (out .entry)) (now (out .exit)) start r ⌝ }
 {
     let at = start + filling::copy(&[2, 2, 0, 0], &mut out[start..start + HEADER_LENGTH]);
-    put_entries(net, base, k * MOST_ENTRIES, entry_count(n, k), out, at)
+    put_entries(metrics, base, k * MOST_ENTRIES, entry_count(n, k), out, at)
 }
 
 // All messages, where there is room for them.
-fn put_messages(net: &Network, base: u32, n: usize, out: &mut [u8]) -> usize
+fn put_messages(metrics: &[u8; NODES], base: u32, n: usize, out: &mut [u8]) -> usize
     requires { ⌜ Sound base ⌝ }
-    requires { ⌜ n ≡ view (now net) .nodes ⌝ }
+    requires { ⌜ n ≤ maxNodes ⌝ }
     requires { ⌜ messagesLength n ≤ length (now out) ⌝ }
-    ensures { λ r. ⌜ Wrote (rowMessages base (view (now (net .entry)))) (now (out .entry)) (now (out .exit)) r ⌝ }
+    ensures { λ r. ⌜ Wrote (messages base (by (now (metrics .entry))) n) (now (out .entry)) (now (out .exit)) r ⌝ }
 {
     let count = message_count(n);
     let mut at: usize = 0;
     let mut k: usize = 0;
     while k < count {
-        at = put_message(net, base, n, k, out, at);
+        at = put_message(metrics, base, n, k, out, at);
         k = k + 1;
     }
     at
@@ -234,9 +259,10 @@ pub fn write_messages(net: &Network, base: u32, out: &mut [u8]) -> Written
     if out.len() < messages_length(all) {
         return Written { number: 6, used: 0 };
     }
+    let metrics = row_metrics(net, all);
     Written {
         number: 0,
-        used: put_messages(net, base, all, out),
+        used: put_messages(&metrics, base, all, out),
     }
 }
 

@@ -3,24 +3,22 @@
 use borrow.Author.Needs.{needs}
 use native.Mathlib.Omega.{arith}
 use denote.Ref.{now}
-use Rattle.records.specs.Numbers.{be8, be16, be32}
+use Rattle.filling.proofs.Parts.{wrote-as}
 use Rattle.filling.proofs.Copying.{wrote-all}
-use Rattle.response.specs.Messages.{entry}
+use Rattle.response.proofs.Fields.{entry-bytes}
 use Rattle.response.proofs.put_entry.Statement.{statement}
 use Rattle.response.proofs.put_entry.Tie as tie
 
 returns : tie.Need-returns
-unfolding entry be32 be16 be8
-returns c = wrote-all _ (now (c .before .before .before .before .before .before .args .out)) (omega arith) (c .before .before .copy .ensures)
+returns c =
+    let copy = c .before .before in
+    let s = copy .before .before .before .before in
+    wrote-as (entry-bytes (s .args .a) (s .args .m) (s .fits .m .fits)) (wrote-all _ (now (s .args .out)) (omega arith) (copy .copy .ensures))
 
 pub put-entry-spec : {M : Type 1} → statement M
 put-entry-spec =
     tie.close
     (tie.spec
-    (λ c. search needs)
-    (λ c. search needs)
-    (λ c. search needs)
-    (λ c. search needs)
     (λ c. search needs)
     (λ c. search needs)
     (λ c. search needs)
