@@ -8,7 +8,7 @@ use Prim.Native.Nat.{ℕ, suc, _+_, _*_, _/_, _%_, _^_, _<_, _≤_}
 use native.Mathlib.Numerals.{add-one}
 use native.Mathlib.Omega.{arith}
 use lib.Dec.{eqb, ltb}
-use lib.ListN.{length, take, drop, getD}
+use lib.ListN.{length, take, drop, set, getD}
 use lib.Seq.{drop-cons}
 use borrow.Author.Tests.{eq-eqb, eqb-true, eqb-false, ne-eqb, lt-ltb, le-ltb, ltb-false, not-false}
 use Rattle.ancestors.specs.Ancestors.{hops}
@@ -162,6 +162,15 @@ front a t = refl
 pub entry-bytes : (a m : ℕ) → m < 256 → entry a m ≡ entryFront a (0 ∷ 0 ∷ 0 ∷ m ∷ [])
 unfolding entry
 entry-bytes a m h = front a (be32 m) ∙ ap (entryFront a) (small32 m h)
+
+-- an entry k addresses after the base's, from the blank one
+pub entry-set : (base k m : ℕ) → base % 256 ≡ 0 → k < 256 → m < 256 → set (set (entry base 0) 7 k) 19 m ≡ entry (base + k) m
+entry-set base k m z hk hm =
+    let p : (base + k) / 65536 / 256 % 256 ≡ base / 65536 / 256 % 256 = omega arith in
+    let q : (base + k) / 65536 % 256 ≡ base / 65536 % 256 = omega arith in
+    let r : (base + k) / 256 % 256 ≡ base / 256 % 256 = omega arith in
+    let s : (base + k) % 256 ≡ k = omega arith in
+    ap (λ (l : List ℕ). set (set l 7 k) 19 m) (entry-bytes base 0 (omega arith)) ∙ sym (entry-bytes (base + k) m hm ∙ cc)
 
 -- an entry that was written, whatever follows it
 module _ (a m : ℕ) (r : List ℕ) (word : a < 2 ^ 32) (right : metricFault m ≡ false) where

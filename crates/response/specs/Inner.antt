@@ -3,17 +3,16 @@
 use mathlib.Core.Path.{_≡_}
 use mathlib.Core.Bool.{Bool, true, not}
 use mathlib.Core.List.{List}
-use Prim.Native.Nat.{ℕ, _+_, _^_, _<_}
+use Prim.Native.Nat.{ℕ, _+_, _%_}
 use lib.ListN.{getD}
-use Rattle.network.specs.Faults.{maxNodes}
 use Rattle.network.specs.Round.{some}
 use Rattle.filling.specs.Filling.{Added}
 use Rattle.response.specs.Messages.{address}
 use Rattle.response.specs.Reading.{entryFault, entryFrom, messageFault, messageMetrics, bufferFault, bufferMetrics}
 
--- the addresses of all nodes have 32 bits
+-- the base's last byte is 0
 abbrev pub Sound : ℕ → Type 0
-Sound base = base + maxNodes < 2 ^ 32
+Sound base = base % 256 ≡ 0
 
 -- metrics in their places, by node
 abbrev pub by : List ℕ → ℕ → ℕ
