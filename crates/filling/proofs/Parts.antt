@@ -6,8 +6,8 @@ use Prim.Native.Nat.{ℕ, suc, _+_, _-_, _<_, _≤_}
 use native.Mathlib.Nat.{zero-add}
 use native.Mathlib.Numerals.{add-one}
 use native.Mathlib.Omega.{arith}
-use lib.ListN.{length, take, drop, set, getD, length-append, length-set, length-take, length-drop, take-append-drop, drop-of-length-le}
-use lib.Seq.{length-take-le, take-at, drop-at, drop-cons, set-at, set-append-left, take-all, drop-drop}
+use lib.ListN.{length, take, drop, set, getD, length-append, length-take, length-drop, take-append-drop, drop-of-length-le}
+use lib.Seq.{length-take-le, take-at, drop-at, drop-cons, set-at, take-all, drop-drop}
 use Rattle.filling.specs.Filling.{Wrote, Added}
 
 -- nothing written
@@ -22,14 +22,6 @@ wrote-byte v (x ∷ e) h = record { used = refl; left = refl }
 -- the same bytes in other words
 pub wrote-as : {s w e x : List ℕ} {r : ℕ} → s ≡ w → Wrote w e x r → Wrote s e x r
 wrote-as p h = rw p h
-
--- a byte of those written, stored anew
-pub wrote-set : {w e x : List ℕ} {r : ℕ} (i v : ℕ) → Wrote w e x r → i < length w → Wrote (set w i v) e (set x i v) r
-wrote-set {w} {e} {x} {r} i v h m =
-    record {
-      used = h .used ∙ sym (length-set w i v);
-      left = ap (λ (l : List ℕ). set l i v) (h .left) ∙ set-append-left w (drop r e) i v m;
-    }
 
 -- the place is within the output, and the output is as long as it was
 pub within : {w e x : List ℕ} {a : ℕ} → Wrote w e x a → a ≤ length x

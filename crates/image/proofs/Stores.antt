@@ -9,6 +9,7 @@ use lib.Seq.{sets}
 use Rattle.records.specs.Numbers.{be8, be16, be32}
 use Rattle.records.specs.Records.{bodyLength, recordLength, rowRecord, reportRecord}
 use Rattle.filling.specs.Filling.{Wrote}
+use Rattle.filling.proofs.Fronts.{Front, none, more, front}
 use Rattle.image.specs.Items.{longStored, Stored}
 
 -- four numbers stored from a place on
@@ -18,16 +19,6 @@ four e at a b c d =
     let q : at + 2 ≡ suc (suc at) = omega arith in
     let r : at + 3 ≡ suc (suc (suc at)) = omega arith in
     rw (p, q, r)
-
--- a list of at least k numbers
-data Front : ℕ → List ℕ → Type 0 where
-  none : {e : List ℕ} → Front zero e
-  more : {k a : ℕ} {e : List ℕ} → Front k e → Front (suc k) (a ∷ e)
-
-front : (k : ℕ) (e : List ℕ) → k ≤ length e → Front k e
-front zero e h = none
-front (suc k) [] h = absurd (omega arith)
-front (suc k) (a ∷ e) h = more (front k e (omega arith))
 
 -- three bytes
 module _ (a b c : ℕ) where

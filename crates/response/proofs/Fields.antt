@@ -8,14 +8,18 @@ use Prim.Native.Nat.{ℕ, suc, _+_, _*_, _/_, _%_, _^_, _<_, _≤_}
 use native.Mathlib.Numerals.{add-one}
 use native.Mathlib.Omega.{arith}
 use lib.Dec.{eqb, ltb}
-use lib.ListN.{length, take, drop, set, getD}
-use lib.Seq.{drop-cons}
+use lib.ListN.{length, take, drop, getD}
+use lib.Seq.{drop-cons, sets}
 use borrow.Author.Tests.{eq-eqb, eqb-true, eqb-false, ne-eqb, lt-ltb, le-ltb, ltb-false, not-false}
 use Rattle.ancestors.specs.Ancestors.{hops}
 use Rattle.ancestors.proofs.Cases.{bool-cases, le-or-lt, eq-or-ne, never, eqb-same, or-neither}
 use Rattle.network.specs.Network.{Row, none, root, via}
 use Rattle.records.specs.Numbers.{Bytes, be8, be16, be32, num8, num16, num32}
 use Rattle.records.proofs.NumberLaws.{be8-of, be16-of, be32-of, num32-of}
+use Rattle.filling.specs.Filling.{Wrote}
+use Rattle.filling.proofs.Fronts.{Front, none as front-none, more}
+use Rattle.filling.proofs.Fronts.{front as front-of}
+use Rattle.filling.proofs.Parts.{wrote-as}
 use Rattle.response.specs.Messages.{infinity, hopsMetric, metric, mask, entry, entryLength, header, headerLength}
 use Rattle.response.specs.Reading.{differs, metricFault, entryFault, entryMetric, headerFault}
 use Rattle.response.proofs.Pieces.{take-next}
@@ -163,14 +167,18 @@ pub entry-bytes : (a m : ℕ) → m < 256 → entry a m ≡ entryFront a (0 ∷ 
 unfolding entry
 entry-bytes a m h = front a (be32 m) ∙ ap (entryFront a) (small32 m h)
 
--- an entry k addresses after the base's, from the blank one
-pub entry-set : (base k m : ℕ) → base % 256 ≡ 0 → k < 256 → m < 256 → set (set (entry base 0) 7 k) 19 m ≡ entry (base + k) m
-entry-set base k m z hk hm =
-    let p : (base + k) / 65536 / 256 % 256 ≡ base / 65536 / 256 % 256 = omega arith in
-    let q : (base + k) / 65536 % 256 ≡ base / 65536 % 256 = omega arith in
-    let r : (base + k) / 256 % 256 ≡ base / 256 % 256 = omega arith in
-    let s : (base + k) % 256 ≡ k = omega arith in
-    ap (λ (l : List ℕ). set (set l 7 k) 19 m) (entry-bytes base 0 (omega arith)) ∙ sym (entry-bytes (base + k) m hm ∙ cc)
+-- an entry stored byte by byte at the front of a part, its address first
+abbrev pub entryStored : List ℕ → ℕ → ℕ → List ℕ
+entryStored e a m =
+    let i = sets e 4 (a / 65536 / 256 % 256 ∷ a / 65536 % 256 ∷ a / 256 % 256 ∷ a % 256 ∷ []) in
+    sets (sets i 0 (0 ∷ 2 ∷ 0 ∷ 0 ∷ [])) 8 (255 ∷ 255 ∷ 255 ∷ 255 ∷ 0 ∷ 0 ∷ 0 ∷ 0 ∷ 0 ∷ 0 ∷ 0 ∷ m ∷ [])
+
+twenty : (a m : ℕ) {e : List ℕ} → Front 20 e → Wrote (entryFront a (0 ∷ 0 ∷ 0 ∷ m ∷ [])) e (entryStored e a m) 20
+twenty a m (more (more (more (more (more (more (more (more (more (more (more (more (more (more (more (more (more (more (more (more front-none)))))))))))))))))))) =
+    record { used = refl; left = refl }
+
+pub entry-stored : (a m : ℕ) (e : List ℕ) → m < 256 → entryLength ≤ length e → Wrote (entry a m) e (entryStored e a m) entryLength
+entry-stored a m e h room = wrote-as (entry-bytes a m h) (twenty a m (front-of entryLength e room))
 
 -- an entry that was written, whatever follows it
 module _ (a m : ℕ) (r : List ℕ) (word : a < 2 ^ 32) (right : metricFault m ≡ false) where

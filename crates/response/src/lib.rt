@@ -6,7 +6,7 @@ ghost use mathlib.Core.Path.{_≡_};
 ghost use mathlib.Core.Bool.{cond};
 ghost use mathlib.Core.List.{[], _∷_};
 ghost use Prim.Native.Nat.{_+_, _*_, _<_, _≤_};
-ghost use lib.ListN.{length, set};
+ghost use lib.ListN.{length};
 ghost use Rattle.network.specs.Faults.{maxNodes};
 ghost use Rattle.network.specs.Writing.{Writes};
 ghost use Rattle.memory.specs.Layout.{view};
@@ -147,45 +147,33 @@ fn row_metrics(net: &Network, n: usize) -> [u8; NODES]
     metrics
 }
 
-// The bytes of an entry whose address is the base and whose metric is 0.
-fn blank_entry(base: u32) -> [u8; ENTRY_LENGTH]
-    ensures { λ r. ⌜ r ≡ entry base 0 ⌝ }
-{
-    [
-        0,
-        2,
-        0,
-        0,
-        (base / 65536 / 256 % 256) as u8,
-        (base / 65536 % 256) as u8,
-        (base / 256 % 256) as u8,
-        (base % 256) as u8,
-        255,
-        255,
-        255,
-        255,
-        0,
-        0,
-        0,
-        0,
-        0,
-        0,
-        0,
-        0,
-    ]
-}
-
-// An entry, k addresses after the base's, at the front of a part, with the bytes used as the answer: the blank one with the last byte of its address
-// and of its metric.
-fn put_entry(blank: &[u8], k: u8, m: u8, out: &mut [u8]) -> usize
-    requires { ⌜ length (now blank) ≡ entryLength ⌝ }
+// An entry at the front of a part, with the bytes used as the answer. Its address comes first: the compiler joins the bytes of a number into one store
+// where no other byte is stored right before them.
+fn put_entry(a: u32, m: u8, out: &mut [u8]) -> usize
     requires { ⌜ entryLength ≤ length (now out) ⌝ }
-    ensures { λ r. ⌜ Wrote (set (set (now (blank .entry)) 7 k) 19 m) (now (out .entry)) (now (out .exit)) r × (m < 256) ⌝ }
+    ensures { λ r. ⌜ Wrote (entry a m) (now (out .entry)) (now (out .exit)) r ⌝ }
 {
-    let used = filling::copy(blank, out);
-    out[7] = k;
+    out[4] = (a / 65536 / 256 % 256) as u8;
+    out[5] = (a / 65536 % 256) as u8;
+    out[6] = (a / 256 % 256) as u8;
+    out[7] = (a % 256) as u8;
+    out[0] = 0;
+    out[1] = 2;
+    out[2] = 0;
+    out[3] = 0;
+    out[8] = 255;
+    out[9] = 255;
+    out[10] = 255;
+    out[11] = 255;
+    out[12] = 0;
+    out[13] = 0;
+    out[14] = 0;
+    out[15] = 0;
+    out[16] = 0;
+    out[17] = 0;
+    out[18] = 0;
     out[19] = m;
-    used
+    ENTRY_LENGTH
 }
 
 // The entries of the nodes from `first` on, from a place of the output on; answers the place after them.
@@ -202,13 +190,12 @@ fn put_entries(
     requires { ⌜ start + count * entryLength ≤ length (now out) ⌝ }
     ensures { λ r. ⌜ Added (entries base (by (now (metrics .entry))) first count) (now (out .entry)) (now (out .exit)) start r ⌝ }
 {
-    let blank = blank_entry(base);
     let mut at = start;
     let mut i: usize = 0;
     while i < count {
         let node = first + i;
-        let last = ((node + 1) % 256) as u8;
-        at = at + put_entry(&blank, last, metrics[node], &mut out[at..at + ENTRY_LENGTH]);
+        let a = node_address(base, node);
+        at = at + put_entry(a, metrics[node], &mut out[at..at + ENTRY_LENGTH]);
         i = i + 1;
     }
     at
