@@ -2,27 +2,24 @@
 -- Assumes nothing.
 use mathlib.Core.Path.{_≡_, refl, sym, ap, _∙_}
 use mathlib.Core.Bool.{Bool, true, false, cond, not, _||_, or-true}
-use mathlib.Core.List.{List, [], _∷_, _++_, append-assoc}
+use mathlib.Core.List.{List, [], _++_}
 use mathlib.Core.Logic.{_⊎_, inl, inr, _≢_}
-use Prim.Native.Nat.{ℕ, suc, _+_, _-_, _%_, _<_, _≤_}
+use Prim.Native.Nat.{ℕ, _+_, _-_, _%_, _<_, _≤_}
 use native.Mathlib.Nat.{zero-add}
 use native.Mathlib.Omega.{arith}
 use lib.Dec.{eqb, ltb}
-use lib.ListN.{length, drop, set, getD, length-append, List·getD-append, replicate, length-replicate, replicate-append-replicate}
-use lib.Seq.{drop-at, set-at}
+use lib.ListN.{length, drop, replicate, length-replicate, replicate-append-replicate}
+use lib.Seq.{drop-at}
 use borrow.Author.Tests.{eq-eqb, eqb-true, ne-eqb, eqb-false, lt-ltb, le-ltb, ltb-false, not-false}
 use Rattle.ancestors.proofs.Cases.{eq-or-ne, or-neither}
 use Rattle.network.specs.Faults.{maxNodes}
 use Rattle.network.specs.Network.{Net}
 use Rattle.network.specs.Writing.{writing, Writes}
 use Rattle.network.proofs.Effects.{writing-refused, writing-accepted}
-use Rattle.records.specs.Image.{each}
 use Rattle.filling.specs.Filling.{Wrote, Added}
-use Rattle.response.specs.Messages.{metric, messages, messagesLength, baseFault, countFault, givenThen, rowMessages, writeNumber, writeOf}
+use Rattle.response.specs.Messages.{messagesLength, baseFault, countFault, givenThen, rowMessages, writeNumber, writeOf}
 use Rattle.response.specs.Reading.{bufferFault, bufferMetrics, Reading, readNumber, reading, readOf, places}
-use Rattle.response.specs.Inner.{by}
-use Rattle.response.proofs.Pieces.{ones-size, ones-at}
-use Rattle.response.proofs.Sizes.{messages-size, messages-same}
+use Rattle.response.proofs.Sizes.{messages-size}
 
 -- ---- what is given
 
@@ -206,30 +203,3 @@ unfolding places
 stored-places n {ms} {x} h a =
     let e : n ≡ length ms = a .place ∙ zero-add (length ms) in
     (e, a .left ∙ rw (zeros-left n h, e))
-
--- metrics stored one by one
-pub places-none : replicate maxNodes 0 ≡ places []
-unfolding places
-places-none = refl
-
-pub places-next : (ms : List ℕ) (v i : ℕ) → length ms ≡ i → i < maxNodes → set (places ms) i v ≡ places (ms ++ (v ∷ []))
-unfolding places
-places-next ms v i e h =
-    let k : maxNodes - length ms ≡ suc (maxNodes - suc i) = omega arith in
-    let l : maxNodes - length (ms ++ (v ∷ [])) ≡ maxNodes - suc i = omega (arith, length-append ms (v ∷ [])) in
-    rw (k, set-at ms 0 (replicate (maxNodes - suc i) 0) v i e, l, append-assoc)
-
-pub places-at : (ms : List ℕ) (y : ℕ) → y < length ms → getD (places ms) y 0 ≡ getD ms y 0
-unfolding places
-places-at ms y h = List·getD-append ms (replicate (maxNodes - length ms) 0) 0 y h
-
--- the messages of a network are those of its rows' metrics in their places
-pub row-messages : (base : ℕ) (x : Net) (n : ℕ) {ms : List ℕ} → n ≡ x .nodes → ms ≡ places (each (λ y. metric (x .row y) ∷ []) 0 n)
-    → rowMessages base x ≡ messages base (by ms) n
-unfolding rowMessages
-row-messages base x n {ms} e p =
-    let f : ℕ → ℕ = λ y. metric (x .row y) in
-    rw (← e)
-    (messages-same base f (by ms) n
-    (λ y h. sym
-    (ap (λ (l : List ℕ). getD l y 0) p ∙ places-at (each (λ j. f j ∷ []) 0 n) y (omega (arith, ones-size f 0 n)) ∙ ones-at f 0 n y h ∙ ap f (zero-add y))))

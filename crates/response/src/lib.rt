@@ -4,17 +4,16 @@
 // call writes nothing. No public function has a precondition.
 ghost use mathlib.Core.Path.{_≡_};
 ghost use mathlib.Core.Bool.{cond};
-ghost use mathlib.Core.List.{[], _∷_};
+ghost use mathlib.Core.List.{[]};
 ghost use Prim.Native.Nat.{_+_, _*_, _<_, _≤_};
 ghost use lib.ListN.{length};
 ghost use Rattle.network.specs.Faults.{maxNodes};
 ghost use Rattle.network.specs.Writing.{Writes};
 ghost use Rattle.memory.specs.Layout.{view};
-ghost use Rattle.records.specs.Image.{each};
 ghost use Rattle.filling.specs.Filling.{Wrote, Added};
-ghost use Rattle.response.specs.Messages.{hopsMetric, metric, address, entry, entryLength, headerLength, entries, message, firstNode, entryCount, messageCount, messages, messagesLength, givenThen, writeOf};
-ghost use Rattle.response.specs.Reading.{entryFault, entryMetric, readOf, places, Reads};
-ghost use Rattle.response.specs.Inner.{Sound, by, EntriesRead, MessageRead, BufferRead};
+ghost use Rattle.response.specs.Messages.{hopsMetric, metric, address, entry, entryLength, headerLength, entries, message, firstNode, entryCount, messageCount, messagesLength, givenThen, rowMessages, writeOf};
+ghost use Rattle.response.specs.Reading.{entryFault, entryMetric, readOf, Reads};
+ghost use Rattle.response.specs.Inner.{Sound, rowMetric, EntriesRead, MessageRead, BufferRead};
 use memory::Network;
 use memory::RowRead;
 use network::Written;
@@ -31,12 +30,13 @@ const HEADER_LENGTH: usize = 4;
 const ENTRY_LENGTH: usize = 20;
 
 // The entries of each message but the last, and the bytes of such a message.
-const MOST_ENTRIES: usize = 25;
+const MOST_ENTRIES: u32 = 25;
 
-const FULL_LENGTH: usize = HEADER_LENGTH + MOST_ENTRIES * ENTRY_LENGTH;
+const FULL_LENGTH: usize = HEADER_LENGTH + MOST_ENTRIES as usize * ENTRY_LENGTH;
 
 // The bytes of the messages of the most nodes: an output of so many is always enough.
-pub const MAX_MESSAGES: usize = (NODES + MOST_ENTRIES - 1) / MOST_ENTRIES * HEADER_LENGTH
+pub const MAX_MESSAGES: usize = (NODES + MOST_ENTRIES as usize - 1) / MOST_ENTRIES as usize
+    * HEADER_LENGTH
     + NODES * ENTRY_LENGTH;
 
 // Command 2, version 2 and two bytes of 0 as one number; address family 2 and tag 0 as one; the mask 255.255.255.255.
@@ -65,7 +65,7 @@ fn given_number(base: u32, n: u32) -> u8
 }
 
 // How many messages n nodes take.
-fn message_count(n: usize) -> usize
+fn message_count(n: u32) -> u32
     requires { ⌜ n ≤ maxNodes ⌝ }
     ensures { λ r. ⌜ r ≡ messageCount n ⌝ }
 {
@@ -73,7 +73,7 @@ fn message_count(n: usize) -> usize
 }
 
 // How many of n nodes message k has.
-fn entry_count(n: usize, k: usize) -> usize
+fn entry_count(n: u32, k: u32) -> u32
     requires { ⌜ n ≤ maxNodes ⌝ }
     requires { ⌜ k < messageCount n ⌝ }
     ensures { λ r. ⌜ r ≡ entryCount n k ⌝ }
@@ -86,43 +86,43 @@ fn entry_count(n: usize, k: usize) -> usize
 }
 
 // How many bytes the messages of n nodes are.
-fn messages_length(n: usize) -> usize
+fn messages_length(n: u32) -> usize
     requires { ⌜ n ≤ maxNodes ⌝ }
     ensures { λ r. ⌜ r ≡ messagesLength n ⌝ }
 {
-    message_count(n) * HEADER_LENGTH + n * ENTRY_LENGTH
+    message_count(n) as usize * HEADER_LENGTH + n as usize * ENTRY_LENGTH
 }
 
 // The address of a node.
-fn node_address(base: u32, node: usize) -> u32
+fn node_address(base: u32, node: u32) -> u32
     requires { ⌜ Sound base ⌝ }
     requires { ⌜ node < maxNodes ⌝ }
     ensures { λ r. ⌜ r ≡ address base node ⌝ }
 {
-    base + node as u32 + 1
+    base + node + 1
 }
 
 // ---- writing
 
 // The metric for so many hops.
-fn hops_metric(hops: u32) -> u32
+fn hops_metric(hops: u32) -> u8
     ensures { λ r. ⌜ r ≡ hopsMetric hops ⌝ }
 {
     if 15 <= hops {
-        return INFINITY;
+        return INFINITY as u8;
     }
-    hops + 1
+    (hops + 1) as u8
 }
 
 // The metric of a node's row.
-fn node_metric(net: &Network, node: usize) -> u32
+fn node_metric(net: &Network, node: u32) -> u8
     requires { ⌜ node < view (now net) .nodes ⌝ }
     ensures { λ r. ⌜ r ≡ metric (view (now (net .entry)) .row node) ⌝ }
 {
-    let row = memory::row(net, node as u32);
+    let row = memory::row(net, node);
     match row {
         RowRead::Refused => 0,
-        RowRead::NoRoute => INFINITY,
+        RowRead::NoRoute => INFINITY as u8,
         RowRead::Origin { list: _, hops } => hops_metric(hops),
         RowRead::Route {
             label: _,
@@ -131,20 +131,6 @@ fn node_metric(net: &Network, node: usize) -> u32
             hops,
         } => hops_metric(hops),
     }
-}
-
-// The metrics of the first n nodes, in their places.
-fn row_metrics(net: &Network, n: usize) -> [u8; NODES]
-    requires { ⌜ n ≤ view (now net) .nodes ⌝ }
-    ensures { λ r. ⌜ r ≡ places (each (λ y. metric (view (now (net .entry)) .row y) ∷ []) 0 n) ⌝ }
-{
-    let mut metrics = [0u8; NODES];
-    let mut y: usize = 0;
-    while y < n {
-        metrics[y] = (node_metric(net, y) % 256) as u8;
-        y = y + 1;
-    }
-    metrics
 }
 
 // An entry at the front of a part, with the bytes used as the answer. Its address comes first: the compiler joins the bytes of a number into one store
@@ -178,60 +164,53 @@ fn put_entry(a: u32, m: u8, out: &mut [u8]) -> usize
 
 // The entries of the nodes from `first` on, from a place of the output on; answers the place after them.
 fn put_entries(
-    metrics: &[u8; NODES],
+    net: &Network,
     base: u32,
-    first: usize,
-    count: usize,
+    first: u32,
+    count: u32,
     out: &mut [u8],
     start: usize,
 ) -> usize
     requires { ⌜ Sound base ⌝ }
-    requires { ⌜ first + count ≤ maxNodes ⌝ }
+    requires { ⌜ first + count ≤ view (now net) .nodes ⌝ }
     requires { ⌜ start + count * entryLength ≤ length (now out) ⌝ }
-    ensures { λ r. ⌜ Added (entries base (by (now (metrics .entry))) first count) (now (out .entry)) (now (out .exit)) start r ⌝ }
+    ensures { λ r. ⌜ Added (entries base (rowMetric (view (now (net .entry)))) first count) (now (out .entry)) (now (out .exit)) start r ⌝ }
 {
     let mut at = start;
-    let mut i: usize = 0;
+    let mut i: u32 = 0;
     while i < count {
         let node = first + i;
-        let a = node_address(base, node);
-        at = at + put_entry(a, metrics[node], &mut out[at..at + ENTRY_LENGTH]);
+        let m = node_metric(net, node);
+        at = at + put_entry(node_address(base, node), m, &mut out[at..at + ENTRY_LENGTH]);
         i = i + 1;
     }
     at
 }
 
 // Message k of n nodes.
-fn put_message(
-    metrics: &[u8; NODES],
-    base: u32,
-    n: usize,
-    k: usize,
-    out: &mut [u8],
-    start: usize,
-) -> usize
+fn put_message(net: &Network, base: u32, n: u32, k: u32, out: &mut [u8], start: usize) -> usize
     requires { ⌜ Sound base ⌝ }
-    requires { ⌜ n ≤ maxNodes ⌝ }
+    requires { ⌜ n ≡ view (now net) .nodes ⌝ }
     requires { ⌜ k < messageCount n ⌝ }
     requires { ⌜ start + (headerLength + entryCount n k * entryLength) ≤ length (now out) ⌝ }
-    ensures { λ r. ⌜ Added (message base (by (now (metrics .entry))) (firstNode k) (entryCount n k)) (now (out .entry)) (now (out .exit)) start r ⌝ }
+    ensures { λ r. ⌜ Added (message base (rowMetric (view (now (net .entry)))) (firstNode k) (entryCount n k)) (now (out .entry)) (now (out .exit)) start r ⌝ }
 {
     let at = start + filling::copy(&[2, 2, 0, 0], &mut out[start..start + HEADER_LENGTH]);
-    put_entries(metrics, base, k * MOST_ENTRIES, entry_count(n, k), out, at)
+    put_entries(net, base, k * MOST_ENTRIES, entry_count(n, k), out, at)
 }
 
 // All messages, where there is room for them.
-fn put_messages(metrics: &[u8; NODES], base: u32, n: usize, out: &mut [u8]) -> usize
+fn put_messages(net: &Network, base: u32, n: u32, out: &mut [u8]) -> usize
     requires { ⌜ Sound base ⌝ }
-    requires { ⌜ n ≤ maxNodes ⌝ }
+    requires { ⌜ n ≡ view (now net) .nodes ⌝ }
     requires { ⌜ messagesLength n ≤ length (now out) ⌝ }
-    ensures { λ r. ⌜ Wrote (messages base (by (now (metrics .entry))) n) (now (out .entry)) (now (out .exit)) r ⌝ }
+    ensures { λ r. ⌜ Wrote (rowMessages base (view (now (net .entry)))) (now (out .entry)) (now (out .exit)) r ⌝ }
 {
     let count = message_count(n);
     let mut at: usize = 0;
-    let mut k: usize = 0;
+    let mut k: u32 = 0;
     while k < count {
-        at = put_message(metrics, base, n, k, out, at);
+        at = put_message(net, base, n, k, out, at);
         k = k + 1;
     }
     at
@@ -250,14 +229,12 @@ pub fn write_messages(net: &Network, base: u32, out: &mut [u8]) -> Written
             used: 0,
         };
     }
-    let all = n as usize;
-    if out.len() < messages_length(all) {
+    if out.len() < messages_length(n) {
         return Written { number: 6, used: 0 };
     }
-    let metrics = row_metrics(net, all);
     Written {
         number: 0,
-        used: put_messages(&metrics, base, all, out),
+        used: put_messages(net, base, n, out),
     }
 }
 
@@ -295,29 +272,29 @@ fn read_entry(part: &[u8], a: u32) -> u32
 }
 
 // The metrics of a message's entries, of the nodes from `first` on, into their places; false where a field of an entry is wrong.
-fn read_entries(part: &[u8], base: u32, first: usize, count: usize, metrics: &mut [u8]) -> bool
+fn read_entries(part: &[u8], base: u32, first: u32, count: u32, metrics: &mut [u8]) -> bool
     requires { ⌜ Sound base ⌝ }
     requires { ⌜ first + count ≤ maxNodes ⌝ }
     requires { ⌜ headerLength + count * entryLength ≤ length (now part) ⌝ }
     requires { ⌜ length (now metrics) ≡ maxNodes ⌝ }
     ensures { λ r. ⌜ EntriesRead base first count (now (part .entry)) (now (metrics .entry)) (now (metrics .exit)) r ⌝ }
 {
-    let mut i: usize = 0;
+    let mut i: u32 = 0;
     while i < count {
         let node = first + i;
-        let at = HEADER_LENGTH + i * ENTRY_LENGTH;
+        let at = HEADER_LENGTH + i as usize * ENTRY_LENGTH;
         let m = read_entry(&part[at..at + ENTRY_LENGTH], node_address(base, node));
         if m == 0 {
             return false;
         }
-        metrics[node] = (m % 256) as u8;
+        metrics[node as usize] = (m % 256) as u8;
         i = i + 1;
     }
     true
 }
 
 // A message's metrics; false where a field is wrong.
-fn read_message(part: &[u8], base: u32, first: usize, count: usize, metrics: &mut [u8]) -> bool
+fn read_message(part: &[u8], base: u32, first: u32, count: u32, metrics: &mut [u8]) -> bool
     requires { ⌜ Sound base ⌝ }
     requires { ⌜ first + count ≤ maxNodes ⌝ }
     requires { ⌜ headerLength + count * entryLength ≤ length (now part) ⌝ }
@@ -331,7 +308,7 @@ fn read_message(part: &[u8], base: u32, first: usize, count: usize, metrics: &mu
 }
 
 // The metrics of all messages; false where a field is wrong.
-fn read_buffer(bytes: &[u8], base: u32, n: usize, metrics: &mut [u8]) -> bool
+fn read_buffer(bytes: &[u8], base: u32, n: u32, metrics: &mut [u8]) -> bool
     requires { ⌜ Sound base ⌝ }
     requires { ⌜ n ≤ maxNodes ⌝ }
     requires { ⌜ length (now bytes) ≡ messagesLength n ⌝ }
@@ -339,9 +316,9 @@ fn read_buffer(bytes: &[u8], base: u32, n: usize, metrics: &mut [u8]) -> bool
     ensures { λ r. ⌜ BufferRead base n (now (bytes .entry)) (now (metrics .entry)) (now (metrics .exit)) r ⌝ }
 {
     let count = message_count(n);
-    let mut k: usize = 0;
+    let mut k: u32 = 0;
     while k < count {
-        let at = k * FULL_LENGTH;
+        let at = k as usize * FULL_LENGTH;
         let right = read_message(
             &bytes[at..],
             base,
@@ -376,12 +353,11 @@ pub fn read_messages(bytes: &[u8], base: u32, n: u32) -> MetricsRead
     if given != 0 {
         return refused(given);
     }
-    let all = n as usize;
-    if bytes.len() != messages_length(all) {
+    if bytes.len() != messages_length(n) {
         return refused(14);
     }
     let mut metrics = [0u8; NODES];
-    let right = read_buffer(bytes, base, all, &mut metrics);
+    let right = read_buffer(bytes, base, n, &mut metrics);
     if !right {
         return refused(14);
     }

@@ -11,4 +11,4 @@ unfolding address
 returns c = refl
 
 pub node-address-spec : {M : Type 1} → statement M
-node-address-spec = tie.close (tie.spec (λ c. search needs) (λ c. search needs) (λ c. search needs) returns)
+node-address-spec = tie.close (tie.spec (λ c. search needs) (λ c. search needs) returns)

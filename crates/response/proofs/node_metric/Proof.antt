@@ -1,17 +1,12 @@
 -- `response::node_metric` meets its contract: the metric by what `memory` answers.
 -- Assumes nothing.
 use borrow.Author.Needs.{needs}
-use native.Mathlib.Omega.{arith}
 use mathlib.Core.Path.{sym, _∙_}
 use denote.Ref.{now}
 use Rattle.memory.specs.Layout.{view}
-use Rattle.memory.proofs.Laws.{few}
 use Rattle.response.proofs.Rows.{not-refused, metric-none, metric-origin, metric-route}
 use Rattle.response.proofs.node_metric.Statement.{statement}
 use Rattle.response.proofs.node_metric.Tie as tie
-
-cast-row : tie.Need-cast-row
-cast-row c = omega (arith, few (now (c .args .net)))
 
 returns : tie.Need-returns
 returns c =
@@ -43,8 +38,8 @@ pub node-metric-spec : {M : Type 1} → statement M
 node-metric-spec =
     tie.close
     (tie.spec
-    cast-row
     (λ c κs. search needs)
+    (λ c. search needs)
     (λ c. search needs)
     (λ c. search needs)
     (λ c. search needs)

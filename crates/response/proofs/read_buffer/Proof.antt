@@ -109,6 +109,7 @@ read-buffer-spec =
     (λ c. omega (arith, in-loop c))
     (λ c. omega (arith, in-loop c))
     (λ c. omega (arith, in-loop c))
+    (λ c. omega (arith, in-loop c))
     (λ c. omega (arith, in-loop (c .before)))
     (λ c κs. (c .before .before .before .before .before .before .pre .1 .0, omega (arith, c .before .before .before .message-count .ensures)))
     read-message-requires

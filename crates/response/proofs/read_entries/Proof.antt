@@ -84,11 +84,13 @@ read-entries-spec =
     (λ c. omega arith)
     (λ c. omega arith)
     (λ c. omega arith)
+    (λ c. omega arith)
     node-address-requires
     (λ c κs. search needs)
     (λ c. omega arith)
     returns
     (λ c. search needs)
+    (λ c. omega arith)
     (λ c. omega arith)
     (λ c. omega arith)
     (λ c. omega arith)
