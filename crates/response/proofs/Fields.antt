@@ -16,13 +16,15 @@ use Rattle.ancestors.proofs.Cases.{bool-cases, le-or-lt, eq-or-ne, never, eqb-s
 use Rattle.network.specs.Network.{Row, none, root, via}
 use Rattle.records.specs.Numbers.{Bytes, be8, be16, be32, num8, num16, num32}
 use Rattle.records.proofs.NumberLaws.{be8-of, be16-of, be32-of, num32-of}
-use Rattle.filling.specs.Filling.{Wrote}
+use Rattle.filling.specs.Filling.{Wrote, copied}
 use Rattle.filling.proofs.Fronts.{Front, none as front-none, more}
 use Rattle.filling.proofs.Fronts.{front as front-of}
-use Rattle.filling.proofs.Parts.{wrote-as}
+use Rattle.filling.proofs.Parts.{wrote-none, wrote-as}
+use Rattle.filling.proofs.Copying.{copied-none, copied-all}
 use Rattle.response.specs.Messages.{infinity, hopsMetric, metric, mask, entry, entryLength, header, headerLength}
 use Rattle.response.specs.Reading.{differs, metricFault, entryFault, entryMetric, headerFault}
 use Rattle.response.proofs.Pieces.{take-next}
+use Rattle.response.proofs.Sizes.{entry-size}
 
 -- ---- metrics
 
@@ -177,8 +179,11 @@ twenty : (a m : ℕ) {e : List ℕ} → Front 20 e → Wrote (entryFront a (0 �
 twenty a m (more (more (more (more (more (more (more (more (more (more (more (more (more (more (more (more (more (more (more (more front-none)))))))))))))))))))) =
     record { used = refl; left = refl }
 
-pub entry-stored : (a m : ℕ) (e : List ℕ) → m < 256 → entryLength ≤ length e → Wrote (entry a m) e (entryStored e a m) entryLength
-entry-stored a m e h room = wrote-as (entry-bytes a m h) (twenty a m (front-of entryLength e room))
+pub entry-stored : (a m : ℕ) (e : List ℕ) → m < 256 → entryLength ≤ length e → Wrote (copied (entry a m) e) e (entryStored e a m) entryLength
+entry-stored a m e h room = wrote-as (copied-all (entry a m) e (omega (arith, entry-size a m)) ∙ entry-bytes a m h) (twenty a m (front-of entryLength e room))
+
+pub entry-unstored : (a m : ℕ) (e : List ℕ) → length e < entryLength → Wrote (copied (entry a m) e) e e 0
+entry-unstored a m e h = wrote-none e (copied-none (entry a m) e (omega (arith, entry-size a m)))
 
 -- an entry that was written, whatever follows it
 module _ (a m : ℕ) (r : List ℕ) (word : a < 2 ^ 32) (right : metricFault m ≡ false) where

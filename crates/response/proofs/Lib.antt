@@ -6,8 +6,6 @@ pub mod Sizes
 -- an entry and a header, then messages, as bytes and back
 pub mod Fields
 pub mod Buffers
--- what the calls read and answer, and the theorems
-pub mod Rows
-pub mod Storing
+-- what the calls answer, and the theorems
 pub mod Answering
 pub mod RoundTrip

@@ -1,4 +1,3 @@
 pub mod Messages
 pub mod Reading
 pub mod RoundTrip
-pub mod Inner

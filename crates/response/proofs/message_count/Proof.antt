@@ -11,4 +11,11 @@ unfolding messageCount
 returns c = refl
 
 pub message-count-spec : {M : Type 1} → statement M
-message-count-spec = tie.close (tie.spec (λ c. search needs) (λ c. search needs) returns)
+message-count-spec = tie.close (tie.spec
+    (λ c. search needs)
+    (λ c. search needs)
+    (λ c. search needs)
+    (λ c. search needs)
+    (λ c. search needs)
+    (λ c. search needs)
+    returns)

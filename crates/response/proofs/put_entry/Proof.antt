@@ -4,17 +4,21 @@ use borrow.Author.Needs.{needs}
 use native.Mathlib.Omega.{arith}
 use lib.ListN.{length-set}
 use denote.Ref.{now}
-use Rattle.response.proofs.Fields.{entry-stored}
+use Rattle.response.proofs.Fields.{entry-stored, entry-unstored}
 use Rattle.response.proofs.put_entry.Statement.{statement}
 use Rattle.response.proofs.put_entry.Tie as tie
 
 returns : tie.Need-returns
-returns c = entry-stored (c .args .a) (c .args .m) (now (c .args .out)) (c .fits .m .fits) (c .pre)
+returns c = let a = c .before .args in entry-unstored (a .a) (a .m) (now (a .out)) (c .if1 .taken)
+
+returns-2 : tie.Need-returns-2
+returns-2 c = let s = c .before in entry-stored (s .args .a) (s .args .m) (now (s .args .out)) (s .fits .m .fits) (c .if1 .left)
 
 pub put-entry-spec : {M : Type 1} → statement M
 put-entry-spec =
     tie.close
     (tie.spec
+    returns
     (λ c. search needs)
     (λ c. search needs)
     (λ c. search needs)
@@ -40,4 +44,4 @@ put-entry-spec =
     (λ c. simp length-set (omega arith))
     (λ c. simp length-set (omega arith))
     (λ c. simp length-set)
-    returns)
+    returns-2)

@@ -1,5 +1,6 @@
--- `response::read_buffer` meets its contract. The loop's invariant: no message passed has a wrong field, and their metrics stand in their places.
+-- `messages::read_buffer` meets its contract. The loop's invariant: no message passed has a wrong field, and their metrics stand in their places.
 -- Assumes nothing.
+use borrow.Author.Needs.{needs}
 use native.Mathlib.Omega.{arith}
 use Prim.Native.Nat.{ℕ, _+_, _*_, _-_, _<_, _≤_}
 use mathlib.Core.Path.{_≡_, refl, sym, ap, subst, _∙_}
@@ -12,13 +13,13 @@ use Rattle.network.specs.Round.{some}
 use Rattle.network.specs.Faults.{maxNodes}
 use Rattle.filling.specs.Filling.{Added}
 use Rattle.filling.proofs.Parts.{rest-room}
 use Rattle.response.specs.Messages.{headerLength, entryLength, firstNode, entryCount, messageCount, messagesLength}
 use Rattle.response.specs.Reading.{messageFault, fullLength, messageFrom, bufferMetrics}
-use Rattle.response.specs.Inner.{Stored}
+use Rattle.messages.specs.Inner.{Stored}
 use Rattle.response.proofs.Sizes.{nodesBefore, message-place, entry-count-within, message-room}
-use Rattle.response.proofs.Storing.{stored-wrong, stored-right, some-more, some-zero, buffer-by, passedMetrics, passed-none, passed-next, passed-all, message-fault, message-stored}
-use Rattle.response.proofs.read_buffer.Statement.{statement}
-use Rattle.response.proofs.read_buffer.Tie as tie
+use Rattle.messages.proofs.Storing.{stored-wrong, stored-right, some-more, some-zero, buffer-by, passedMetrics, passed-none, passed-next, passed-all, message-fault, message-stored}
+use Rattle.messages.proofs.read_buffer.Statement.{statement}
+use Rattle.messages.proofs.read_buffer.Tie as tie
 
 abbrev Inv-loop : tie.InvT-loop
 Inv-loop bytes base n metrics₀ count k₀ metrics k =
@@ -103,7 +104,7 @@ read-buffer-spec =
     (tie.spec
     Inv-loop
     μ-loop
-    (λ c κs. omega arith)
+    (λ c κs. search needs)
     loop-holds
     (λ c. omega (arith, in-loop c))
     (λ c. omega (arith, in-loop c))
@@ -111,7 +112,7 @@ read-buffer-spec =
     (λ c. omega (arith, in-loop c))
     (λ c. omega (arith, in-loop c))
     (λ c. omega (arith, in-loop (c .before)))
-    (λ c κs. (c .before .before .before .before .before .before .pre .1 .0, omega (arith, c .before .before .before .message-count .ensures)))
+    (λ c κs. search needs)
     read-message-requires
     (λ c. omega arith)
     returns

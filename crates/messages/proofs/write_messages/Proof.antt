@@ -1,4 +1,4 @@
--- `response::write_messages` meets its contract: what is given, then the room.
+-- `messages::write_messages` meets its contract: what is given, then the room.
 -- Assumes nothing.
 use borrow.Author.Needs.{needs}
 use native.Mathlib.Omega.{arith}
@@ -6,11 +6,10 @@ use mathlib.Core.Path.{_≡_, sym, ap, _∙_}
 use Prim.Native.Nat.{ℕ}
 use denote.Ref.{now}
 use Rattle.memory.specs.Layout.{view}
-use Rattle.memory.proofs.Laws.{few}
 use Rattle.response.specs.Messages.{messagesLength, givenThen}
 use Rattle.response.proofs.Answering.{base-says, given-says, write-given, write-short, write-fits}
-use Rattle.response.proofs.write_messages.Statement.{statement}
-use Rattle.response.proofs.write_messages.Tie as tie
+use Rattle.messages.proofs.write_messages.Statement.{statement}
+use Rattle.messages.proofs.write_messages.Tie as tie
 
 returns : tie.Need-returns
 returns c =
@@ -18,11 +17,6 @@ returns c =
     let n = c .before .before .nodes in
     let a = c .before .before .before .before .args in
     write-given (a .base) (view (now (a .net))) (now (a .out)) (given .result) (given .ensures ∙ ap (λ (k : ℕ). givenThen (a .base) k 0) (n .ensures)) (c .if1 .taken)
-
-messages-length-requires : tie.Need-messages-length-requires
-messages-length-requires c κs =
-    let n = c .before .before in
-    omega (arith, n .nodes .ensures, few (now (n .before .before .args .net)))
 
 returns-2 : tie.Need-returns-2
 returns-2 c =
@@ -62,7 +56,7 @@ write-messages-spec =
     (λ c κs. search needs)
     (λ c κs. search needs)
     returns
-    messages-length-requires
+    (λ c κs. search needs)
     returns-2
     put-messages-requires
     (λ c. search needs)

@@ -1,25 +1,20 @@
--- `response::read_messages` meets its contract: what is given, then the length, then the fields.
+-- `messages::read_messages` meets its contract: what is given, then the length, then the fields.
 -- Assumes nothing.
 use borrow.Author.Needs.{needs}
 use native.Mathlib.Omega.{arith}
 use borrow.Author.Tests.{not-true, not-false}
 use mathlib.Core.Path.{_≡_, refl, sym, ap, subst, _∙_}
 use denote.Ref.{now}
 use Rattle.response.specs.Reading.{Reading, Reads}
 use Rattle.response.proofs.Answering.{base-says, count-says, given-says, read-given, read-wrong, read-right, wrong-length, stored-places}
-use Rattle.response.proofs.read_messages.Statement.{statement}
-use Rattle.response.proofs.read_messages.Tie as tie
+use Rattle.messages.proofs.read_messages.Statement.{statement}
+use Rattle.messages.proofs.read_messages.Tie as tie
 
 returns : tie.Need-returns
 returns c =
     let given = c .before .before .given-number in
     let a = c .before .before .before .before .args in
     subst (λ (o : Reading). Reads o (c .refused .result)) (sym (read-given (a .base) (a .n) (now (a .bytes)) (given .result) (given .ensures) (c .before .if1 .taken))) (c .refused .ensures)
-
-messages-length-requires : tie.Need-messages-length-requires
-messages-length-requires c κs =
-    let a = c .before .before .before .args in
-    count-says (a .n) (given-says (a .base) (a .n) 0 (sym (c .before .given-number .ensures) ∙ c .if1 .left) .1) .1
 
 returns-2 : tie.Need-returns-2
 returns-2 c =
@@ -66,7 +61,7 @@ read-messages-spec =
     (λ c κs. search needs)
     (λ c κs. search needs)
     returns
-    messages-length-requires
+    (λ c κs. search needs)
     (λ c κs. search needs)
     returns-2
     (λ c. search needs)

@@ -1,4 +1,4 @@
--- `response::put_message` meets its contract: the header, then the entries.
+-- `messages::put_message` meets its contract: the header, then the entries.
 -- Assumes nothing.
 use borrow.Author.Needs.{needs}
 use native.Mathlib.Omega.{arith}
@@ -13,11 +13,11 @@ use Rattle.records.specs.Numbers.{be8, be16}
 use Rattle.filling.specs.Filling.{Added}
 use Rattle.filling.proofs.Parts.{added-none, added-as, added-on, added-fits, added-part}
 use Rattle.filling.proofs.Copying.{copied-part}
 use Rattle.response.specs.Messages.{header, headerLength, entryLength, entries, message, messageCount, firstNode}
-use Rattle.response.specs.Inner.{rowMetric}
+use Rattle.messages.specs.Inner.{rowMetric}
 use Rattle.response.proofs.Sizes.{header-size, entry-count-within}
-use Rattle.response.proofs.put_message.Statement.{statement}
-use Rattle.response.proofs.put_message.Tie as tie
+use Rattle.messages.proofs.put_message.Statement.{statement}
+use Rattle.messages.proofs.put_message.Tie as tie
 
 -- the header, in a part of its length
 headed : (c : tie.After-copy) → let s = c .before .before .before .before in
@@ -41,11 +41,6 @@ unfolding messageCount
 mul-put-entries c =
     let s = c .before .before .before .before .before .before in
     omega (arith, few (now (s .args .net)), s .pre)
-
-entry-count-requires : tie.Need-entry-count-requires
-entry-count-requires c κs =
-    let s = c .before .before .before .before .before .before in
-    (omega (arith, few (now (s .args .net)), s .pre), s .pre .1 .1 .0)
 
 put-entries-requires : tie.Need-put-entries-requires
 put-entries-requires c κs =
@@ -81,7 +76,7 @@ put-message-spec =
     (λ c κs. search needs)
     add-at
     mul-put-entries
-    entry-count-requires
+    (λ c κs. search needs)
     put-entries-requires
     (λ c. search needs)
     returns)

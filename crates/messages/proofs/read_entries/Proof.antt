@@ -1,4 +1,4 @@
--- `response::read_entries` meets its contract. The loop's invariant: no entry passed has a wrong field, and their metrics stand in their places.
+-- `messages::read_entries` meets its contract. The loop's invariant: no entry passed has a wrong field, and their metrics stand in their places.
 -- Assumes nothing.
 use borrow.Author.Needs.{needs}
 use native.Mathlib.Omega.{arith}
@@ -10,12 +10,12 @@ use denote.Ref.{now}
 use Rattle.network.specs.Round.{some}
 use Rattle.network.specs.Faults.{maxNodes}
 use Rattle.filling.specs.Filling.{Added}
 use Rattle.response.specs.Messages.{address, headerLength, entryLength}
 use Rattle.response.specs.Reading.{entryFault, entryFrom, messageMetrics}
-use Rattle.response.specs.Inner.{EntriesRead}
-use Rattle.response.proofs.Storing.{stored-wrong, stored-right, some-more, some-zero, zero-wrong, other-right, metrics-none, metrics-next}
-use Rattle.response.proofs.read_entries.Statement.{statement}
-use Rattle.response.proofs.read_entries.Tie as tie
+use Rattle.messages.specs.Inner.{EntriesRead}
+use Rattle.messages.proofs.Storing.{stored-wrong, stored-right, some-more, some-zero, zero-wrong, other-right, metrics-none, metrics-next}
+use Rattle.messages.proofs.read_entries.Statement.{statement}
+use Rattle.messages.proofs.read_entries.Tie as tie
 
 abbrev Inv-loop : tie.InvT-loop
 Inv-loop part base first count metrics₀ i₀ metrics i =

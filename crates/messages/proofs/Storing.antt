@@ -20,11 +20,11 @@ use Rattle.records.specs.Image.{each}
 use Rattle.records.proofs.Each.{each-zero, each-next}
 use Rattle.filling.specs.Filling.{Added}
 use Rattle.filling.proofs.Parts.{added-none, added-as, added-byte, added-on}
 use Rattle.response.specs.Messages.{infinity, address, entryLength, headerLength, messageCount, firstNode, entryCount, messagesLength}
 use Rattle.response.specs.Reading.{metricFault, entryFault, entryMetric, headerFault, entryFrom, messageFault, messageMetrics, fullLength, messageFrom, bufferFault, bufferMetrics}
-use Rattle.response.specs.Inner.{Stored, EntriesRead, MessageRead}
+use Rattle.messages.specs.Inner.{Stored, EntriesRead, MessageRead}
 use Rattle.response.proofs.Sizes.{nodesBefore, before-first, before-next, before-here, before-all}
 use Rattle.response.proofs.Fields.{metric-says, entry-says, header-says, header-by, header-word, header-same}
 
 -- ---- one of several is wrong, or none
 

@@ -1,20 +1,22 @@
--- `response::put_entries` meets its contract. The loop's invariant: the entries of the nodes passed stand from the start on, 20 bytes each.
+-- `messages::put_entries` meets its contract. The loop's invariant: the entries of the nodes passed stand from the start on, 20 bytes each.
 -- Assumes nothing.
+use borrow.Author.Needs.{needs}
 use native.Mathlib.Omega.{arith}
 use Prim.Native.Nat.{_+_, _*_, _-_, _≤_}
 use mathlib.Core.Path.{_≡_, refl, sym, ap₂, subst, _∙_}
 use mathlib.Core.List.{_++_}
-use lib.ListN.{length, length-take, length-drop}
+use lib.ListN.{length, take, drop}
 use denote.Ref.{now}
 use Rattle.memory.specs.Layout.{view}
 use Rattle.memory.proofs.Laws.{few}
-use Rattle.filling.specs.Filling.{Added}
+use Rattle.filling.specs.Filling.{Wrote, Added}
 use Rattle.filling.proofs.Parts.{added-none, added-as, added-long, added-part}
+use Rattle.filling.proofs.Copying.{copied-part}
 use Rattle.response.specs.Messages.{entries, entry, entryLength}
-use Rattle.response.specs.Inner.{rowMetric}
+use Rattle.messages.specs.Inner.{rowMetric}
 use Rattle.response.proofs.Sizes.{entry-size, entries-none, entries-next}
-use Rattle.response.proofs.put_entries.Statement.{statement}
-use Rattle.response.proofs.put_entries.Tie as tie
+use Rattle.messages.proofs.put_entries.Statement.{statement}
+use Rattle.messages.proofs.put_entries.Tie as tie
 
 abbrev Inv-loop : tie.InvT-loop
 Inv-loop net base first count out₀ start at₀ i₀ out at i =
@@ -28,8 +30,16 @@ loop-holds c =
     let a = c .before .args in
     (added-none (now (a .out)) (a .start) (entries-none (a .base) (rowMetric (view (now (a .net)))) (a .first)) (omega arith), omega arith, omega arith, refl)
 
-put-entry-requires : tie.Need-put-entry-requires Inv-loop μ-loop
-put-entry-requires c κs = simp (length-take, length-drop) (omega arith)
+-- the entry of the node in turn, in a part of its length
+put-one : (c : tie.After-put-entry Inv-loop μ-loop) →
+    let l = c .before .before .before .before .before .loop in
+    Wrote (entry (c .before .before .node-address .result) (c .before .before .before .node-metric .result)) (take (l .at + entryLength - l .at) (drop (l .at) (l .out))) (c .put-entry .last .1 .1 .0) (c .put-entry .result)
+put-one c =
+    let address = c .before .before in
+    let metric = address .before in
+    let l = metric .before .before .loop in
+    let k = entry-size (address .node-address .result) (metric .node-metric .result) in
+    copied-part _ (l .out) (l .at) (l .at + entryLength - l .at) (omega (arith, k)) (omega arith) (c .put-entry .ensures)
 
 add-at : tie.Need-add-at Inv-loop μ-loop
 add-at c =
@@ -38,7 +48,7 @@ add-at c =
     let metric = address .before in
     let l = metric .before .before .loop in
     let s = metric .before .before .before .before in
-    omega (arith, put .put-entry .ensures .used, entry-size (address .node-address .result) (metric .node-metric .result), l .inv, s .pre, s .good)
+    omega (arith, put-one put .used, entry-size (address .node-address .result) (metric .node-metric .result), l .inv, s .pre, s .good)
 
 loop-again : tie.Need-loop-again Inv-loop μ-loop
 loop-again c =
@@ -50,8 +60,8 @@ loop-again c =
     let f = rowMetric (view (now (a .net))) in
     let k = entry-size (address .node-address .result) (metric .node-metric .result) in
     let e = entries-next (a .base) f (a .first) (l .i) ∙ ap₂ (λ d m. entries (a .base) f (a .first) (l .i) ++ entry d m) (sym (address .node-address .ensures)) (sym (metric .node-metric .ensures)) in
-    let w = added-as e (added-part {k = l .at + entryLength - l .at} (l .inv .0) (put .put-entry .ensures) (omega (arith, k)) (omega arith)) in
-    (w, omega (arith, put .put-entry .ensures .used, k), omega arith, added-long w (omega (arith, put .put-entry .ensures .used, k)))
+    let w = added-as e (added-part {k = l .at + entryLength - l .at} (l .inv .0) (put-one put) (omega (arith, k)) (omega arith)) in
+    (w, omega (arith, put-one put .used, k), omega arith, added-long w (omega (arith, put-one put .used, k)))
 
 returns : tie.Need-returns Inv-loop μ-loop
 returns c =
@@ -74,7 +84,7 @@ put-entries-spec =
     (λ c. omega arith)
     (λ c. omega arith)
     (λ c. omega arith)
-    put-entry-requires
+    (λ c κs. search needs)
     add-at
     (λ c. omega arith)
     (λ c. omega arith)

@@ -1,0 +1,246 @@
+// The calls on RIP version 2 Response messages (RFC 2453): a network's rows written into an output that the caller lends, and messages read back.
+//
+// Contracts go by change request Three's definitions (crates/response/specs) and hold for any words and bytes. The network is read by calls of `memory`.
+// A refused call writes nothing. No public function has a precondition.
+ghost use mathlib.Core.Path.{_≡_};
+ghost use mathlib.Core.List.{[]};
+ghost use Prim.Native.Nat.{_+_, _*_, _<_, _≤_};
+ghost use lib.ListN.{length};
+ghost use Rattle.network.specs.Faults.{maxNodes};
+ghost use Rattle.network.specs.Writing.{Writes};
+ghost use Rattle.memory.specs.Layout.{view};
+ghost use Rattle.filling.specs.Filling.{Wrote, Added};
+ghost use Rattle.response.specs.Messages.{metric, address, entryLength, headerLength, entries, message, firstNode, entryCount, messageCount, messagesLength, rowMessages, writeOf};
+ghost use Rattle.response.specs.Reading.{readOf, Reads};
+ghost use Rattle.messages.specs.Inner.{Sound, rowMetric, EntriesRead, MessageRead, BufferRead};
+use memory::Network;
+use memory::RowRead;
+use network::Written;
+use response::MetricsRead;
+
+// Command 2, version 2 and two bytes of 0 as one number.
+const HEADER_WORD: u32 = 0x0202_0000;
+
+// The address of a node.
+fn node_address(base: u32, node: u32) -> u32
+    requires { ⌜ Sound base ⌝ }
+    requires { ⌜ node < maxNodes ⌝ }
+    ensures { λ r. ⌜ r ≡ address base node ⌝ }
+{
+    base + node + 1
+}
+
+// ---- writing
+
+// The metric of a node's row.
+fn node_metric(net: &Network, node: u32) -> u8
+    requires { ⌜ node < view (now net) .nodes ⌝ }
+    ensures { λ r. ⌜ r ≡ metric (view (now (net .entry)) .row node) ⌝ }
+{
+    let row = memory::row(net, node);
+    match row {
+        RowRead::Refused => 0,
+        RowRead::NoRoute => response::INFINITY as u8,
+        RowRead::Origin { list: _, hops } => response::hops_metric(hops),
+        RowRead::Route {
+            label: _,
+            predecessor: _,
+            list: _,
+            hops,
+        } => response::hops_metric(hops),
+    }
+}
+
+// The entries of the nodes from `first` on, from a place of the output on; answers the place after them.
+fn put_entries(
+    net: &Network,
+    base: u32,
+    first: u32,
+    count: u32,
+    out: &mut [u8],
+    start: usize,
+) -> usize
+    requires { ⌜ Sound base ⌝ }
+    requires { ⌜ first + count ≤ view (now net) .nodes ⌝ }
+    requires { ⌜ start + count * entryLength ≤ length (now out) ⌝ }
+    ensures { λ r. ⌜ Added (entries base (rowMetric (view (now (net .entry)))) first count) (now (out .entry)) (now (out .exit)) start r ⌝ }
+{
+    let mut at = start;
+    let mut i: u32 = 0;
+    while i < count {
+        let node = first + i;
+        let m = node_metric(net, node);
+        at = at
+            + response::put_entry(
+                node_address(base, node),
+                m,
+                &mut out[at..at + response::ENTRY_LENGTH],
+            );
+        i = i + 1;
+    }
+    at
+}
+
+// Message k of n nodes.
+fn put_message(net: &Network, base: u32, n: u32, k: u32, out: &mut [u8], start: usize) -> usize
+    requires { ⌜ Sound base ⌝ }
+    requires { ⌜ n ≡ view (now net) .nodes ⌝ }
+    requires { ⌜ k < messageCount n ⌝ }
+    requires { ⌜ start + (headerLength + entryCount n k * entryLength) ≤ length (now out) ⌝ }
+    ensures { λ r. ⌜ Added (message base (rowMetric (view (now (net .entry)))) (firstNode k) (entryCount n k)) (now (out .entry)) (now (out .exit)) start r ⌝ }
+{
+    let at = start
+        + filling::copy(
+            &[2, 2, 0, 0],
+            &mut out[start..start + response::HEADER_LENGTH],
+        );
+    put_entries(
+        net,
+        base,
+        k * response::MOST_ENTRIES,
+        response::entry_count(n, k),
+        out,
+        at,
+    )
+}
+
+// All messages, where there is room for them.
+fn put_messages(net: &Network, base: u32, n: u32, out: &mut [u8]) -> usize
+    requires { ⌜ Sound base ⌝ }
+    requires { ⌜ n ≡ view (now net) .nodes ⌝ }
+    requires { ⌜ messagesLength n ≤ length (now out) ⌝ }
+    ensures { λ r. ⌜ Wrote (rowMessages base (view (now (net .entry)))) (now (out .entry)) (now (out .exit)) r ⌝ }
+{
+    let count = response::message_count(n);
+    let mut at: usize = 0;
+    let mut k: u32 = 0;
+    while k < count {
+        at = put_message(net, base, n, k, out, at);
+        k = k + 1;
+    }
+    at
+}
+
+// Writes a network's rows as messages. The number is 0; or 13 for a base whose last byte isn't 0, 3 for n, 6 for an output shorter than the
+// messages, and then nothing is written.
+pub fn write_messages(net: &Network, base: u32, out: &mut [u8]) -> Written
+    ensures { λ w. ⌜ Writes (writeOf base (view (now (net .entry))) (now (out .entry))) w (now (out .exit)) ⌝ }
+{
+    let n = memory::nodes(net);
+    let given = response::given_number(base, n);
+    if given != 0 {
+        return Written {
+            number: given,
+            used: 0,
+        };
+    }
+    if out.len() < response::messages_length(n) {
+        return Written { number: 6, used: 0 };
+    }
+    Written {
+        number: 0,
+        used: put_messages(net, base, n, out),
+    }
+}
+
+// ---- reading
+
+// The metrics of a message's entries, of the nodes from `first` on, into their places; false where a field of an entry is wrong.
+fn read_entries(part: &[u8], base: u32, first: u32, count: u32, metrics: &mut [u8]) -> bool
+    requires { ⌜ Sound base ⌝ }
+    requires { ⌜ first + count ≤ maxNodes ⌝ }
+    requires { ⌜ headerLength + count * entryLength ≤ length (now part) ⌝ }
+    requires { ⌜ length (now metrics) ≡ maxNodes ⌝ }
+    ensures { λ r. ⌜ EntriesRead base first count (now (part .entry)) (now (metrics .entry)) (now (metrics .exit)) r ⌝ }
+{
+    let mut i: u32 = 0;
+    while i < count {
+        let node = first + i;
+        let at = response::HEADER_LENGTH + i as usize * response::ENTRY_LENGTH;
+        let m = response::read_entry(
+            &part[at..at + response::ENTRY_LENGTH],
+            node_address(base, node),
+        );
+        if m == 0 {
+            return false;
+        }
+        metrics[node as usize] = (m % 256) as u8;
+        i = i + 1;
+    }
+    true
+}
+
+// A message's metrics; false where a field is wrong.
+fn read_message(part: &[u8], base: u32, first: u32, count: u32, metrics: &mut [u8]) -> bool
+    requires { ⌜ Sound base ⌝ }
+    requires { ⌜ first + count ≤ maxNodes ⌝ }
+    requires { ⌜ headerLength + count * entryLength ≤ length (now part) ⌝ }
+    requires { ⌜ length (now metrics) ≡ maxNodes ⌝ }
+    ensures { λ r. ⌜ MessageRead base first count (now (part .entry)) (now (metrics .entry)) (now (metrics .exit)) r ⌝ }
+{
+    if reading::word(&part[..response::HEADER_LENGTH], 0) != HEADER_WORD {
+        return false;
+    }
+    read_entries(part, base, first, count, metrics)
+}
+
+// The metrics of all messages; false where a field is wrong.
+fn read_buffer(bytes: &[u8], base: u32, n: u32, metrics: &mut [u8]) -> bool
+    requires { ⌜ Sound base ⌝ }
+    requires { ⌜ n ≤ maxNodes ⌝ }
+    requires { ⌜ length (now bytes) ≡ messagesLength n ⌝ }
+    requires { ⌜ length (now metrics) ≡ maxNodes ⌝ }
+    ensures { λ r. ⌜ BufferRead base n (now (bytes .entry)) (now (metrics .entry)) (now (metrics .exit)) r ⌝ }
+{
+    let count = response::message_count(n);
+    let mut k: u32 = 0;
+    while k < count {
+        let at = k as usize * response::FULL_LENGTH;
+        let right = read_message(
+            &bytes[at..],
+            base,
+            k * response::MOST_ENTRIES,
+            response::entry_count(n, k),
+            metrics,
+        );
+        if !right {
+            return false;
+        }
+        k = k + 1;
+    }
+    true
+}
+
+fn refused(number: u8) -> MetricsRead
+    ensures { λ r. ⌜ Reads (record { number = number; metrics = [] }) r ⌝ }
+{
+    MetricsRead {
+        number,
+        nodes: 0,
+        metrics: [0u8; response::NODES],
+    }
+}
+
+// Reads messages back, given base and n: the metrics of nodes 0 to n-1. The number is 0; or 13 for a base whose last byte isn't 0, 3 for n of 0 or
+// above 32, 14 for a wrong length or field.
+pub fn read_messages(bytes: &[u8], base: u32, n: u32) -> MetricsRead
+    ensures { λ r. ⌜ Reads (readOf base n (now (bytes .entry))) r ⌝ }
+{
+    let given = response::given_number(base, n);
+    if given != 0 {
+        return refused(given);
+    }
+    if bytes.len() != response::messages_length(n) {
+        return refused(14);
+    }
+    let mut metrics = [0u8; response::NODES];
+    let right = read_buffer(bytes, base, n, &mut metrics);
+    if !right {
+        return refused(14);
+    }
+    MetricsRead {
+        number: 0,
+        nodes: n,
+        metrics,
+    }
+}
