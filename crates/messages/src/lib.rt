@@ -40,7 +40,7 @@ fn node_metric(net: &Network, node: u32) -> u8
     let row = memory::row(net, node);
     match row {
         RowRead::Refused => 0,
-        RowRead::NoRoute => response::INFINITY as u8,
+        RowRead::NoRoute => response::INFINITY,
         RowRead::Origin { list: _, hops } => response::hops_metric(hops),
         RowRead::Route {
             label: _,

@@ -12,7 +12,7 @@ ghost use Rattle.response.specs.Reading.{entryFault, entryMetric};
 pub const NODES: usize = network::MAX_NODES as usize;
 
 // The metric that stands for no route.
-pub const INFINITY: u32 = 16;
+pub const INFINITY: u8 = 16;
 
 // The bytes of a message before its entries, and of an entry.
 pub const HEADER_LENGTH: usize = 4;
@@ -98,7 +98,7 @@ pub fn hops_metric(hops: u32) -> u8
     ensures { λ r. ⌜ r ≡ hopsMetric hops ⌝ }
 {
     if 15 <= hops {
-        return INFINITY as u8;
+        return INFINITY;
     }
     (hops + 1) as u8
 }
@@ -151,7 +151,7 @@ pub fn read_entry(part: &[u8], a: u32) -> u32
         return 0;
     }
     let m = reading::word(part, 16);
-    if INFINITY < m {
+    if (INFINITY as u32) < m {
         return 0;
     }
     m

@@ -23,4 +23,4 @@ returns-2 c =
     rw (le-ltb 15 (h + 1) p)
 
 pub hops-metric-spec : {M : Type 1} → statement M
-hops-metric-spec = tie.close (tie.spec (λ c. search needs) returns (λ c. search needs) (λ c. search needs) returns-2)
+hops-metric-spec = tie.close (tie.spec returns (λ c. search needs) (λ c. search needs) returns-2)

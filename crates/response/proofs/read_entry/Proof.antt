@@ -69,5 +69,6 @@ read-entry-spec =
     (λ c κs. search needs)
     returns-4
     (λ c κs. search needs)
+    (λ c. search needs)
     returns-5
     returns-6)
