@@ -1,3 +1,4 @@
 pub mod Counting
 pub mod Dots
 pub mod Exact
+pub mod Texts

@@ -1,11 +1,18 @@
 // What the program `rip` makes of its arguments and its input: each argument read, and each byte that it writes.
 //
-// Contracts go by specs/Arguments.antt and hold for any bytes. No public function has a precondition.
+// Contracts go by specs/Arguments.antt and specs/Saying.antt and hold for any bytes. No public function has a precondition.
 ghost use mathlib.Core.Path.{_≡_};
 ghost use Prim.Native.Nat.{_+_, _*_, _-_, _<_, _≤_};
 ghost use lib.ListN.{length, take, drop};
 ghost use Rattle.command.specs.Arguments.{capped, noNumber, readCount, readBase};
 ghost use Rattle.command.specs.Inner.{DotAt};
+ghost use mathlib.Core.Bool.{false};
+ghost use Rattle.filling.specs.Filling.{Wrote};
+ghost use Rattle.text.specs.Text.{maxInput};
+ghost use Rattle.text.specs.Filled.{Filled};
+ghost use Rattle.records.specs.Running.{runOf};
+ghost use Rattle.response.specs.Messages.{baseFault};
+ghost use Rattle.command.specs.Saying.{refusedLine, metricLine, nodeLines, usageText, runText, writeText, readText, Says};
 
 // ---- N
 
@@ -119,4 +126,141 @@ pub fn read_base(text: &[u8]) -> BaseRead
         return BaseRead::Unreadable;
     }
     BaseRead::Base(base * 256 + last)
+}
+
+// ---- lines
+
+// What the program says: the bytes at the front of the output, for standard error or for standard output.
+pub struct Said {
+    pub is_error: bool,
+    pub used: usize,
+}
+
+// The bytes of an output with room for all that the program says.
+pub const MAX_SAID: usize = 4096;
+
+// The most nodes.
+const NODES: usize = network::MAX_NODES as usize;
+
+// The line of a refusal.
+fn put_refused(number: u8, out: &mut [u8]) -> usize
+    requires { ⌜ 29 ≤ length (now out) ⌝ }
+    ensures { λ r. ⌜ Wrote (refusedLine number) (now (out .entry)) (now (out .exit)) r ⌝ }
+{
+    let end = text::put_number(b"refused ", number as usize, out, 0);
+    text::put_text(b"\n", out, end)
+}
+
+// The line of a node.
+fn put_metric(node: usize, metric: u8, out: &mut [u8], at: usize) -> usize
+    requires { ⌜ at + 42 ≤ length (now out) ⌝ }
+    ensures { λ r. ⌜ Filled 42 (metricLine node metric) (now (out .entry)) (now (out .exit)) at r ⌝ }
+{
+    let next = text::put_number(b"", node, out, at);
+    let end = text::put_number(b" ", metric as usize, out, next);
+    text::put_text(b"\n", out, end)
+}
+
+// The lines of n nodes.
+fn put_metrics(metrics: &[u8; NODES], n: usize, out: &mut [u8]) -> usize
+    requires { ⌜ n ≤ 32 ⌝ }
+    requires { ⌜ 1344 ≤ length (now out) ⌝ }
+    ensures { λ r. ⌜ Wrote (nodeLines (now (metrics .entry)) n) (now (out .entry)) (now (out .exit)) r ⌝ }
+{
+    let mut at: usize = 0;
+    let mut node: usize = 0;
+    while node < n {
+        at = put_metric(node, metrics[node], out, at);
+        node = node + 1;
+    }
+    at
+}
+
+// ---- what the program says
+
+// Of arguments that can't be read.
+pub fn usage_said(out: &mut [u8; MAX_SAID]) -> Said
+    ensures { λ r. ⌜ Says usageText r (now (out .entry)) (now (out .exit)) ⌝ }
+{
+    let all: &mut [u8] = out;
+    let used = filling::copy(b"usage: rip BASE <run >messages, or rip -r BASE N <messages\n", all);
+    Said {
+        is_error: true,
+        used,
+    }
+}
+
+// Whether a base's last byte isn't 0: then what is written does not go by the input.
+pub fn base_refused(base: u32) -> bool
+    ensures { λ r. ⌜ r ≡ baseFault base ⌝ }
+{
+    if base % 256 != 0 {
+        return true;
+    }
+    false
+}
+
+// Of a run.
+fn run_said(base: u32, input: &[u8], out: &mut [u8]) -> Said
+    requires { ⌜ baseFault base ≡ false ⌝ }
+    requires { ⌜ 4096 ≤ length (now out) ⌝ }
+    ensures { λ r. ⌜ Says (runText base (runOf (now (input .entry)))) r (now (out .entry)) (now (out .exit)) ⌝ }
+{
+    let mut net = [0u32; memory::WORDS];
+    let run = running::run_into(&mut net, input);
+    if run.number != 0 {
+        let end = text::put_stop(run.number, run.place, out, 0);
+        return Said {
+            is_error: true,
+            used: end,
+        };
+    }
+    let written = response::write_messages(&net, base, out);
+    Said {
+        is_error: false,
+        used: written.used,
+    }
+}
+
+// Of a base and a run: the messages; or why there are none.
+pub fn write_said(base: u32, input: &[u8], out: &mut [u8; MAX_SAID]) -> Said
+    ensures { λ r. ⌜ Says (writeText base (now (input .entry))) r (now (out .entry)) (now (out .exit)) ⌝ }
+{
+    let all: &mut [u8] = out;
+    if base_refused(base) {
+        let line = put_refused(13, all);
+        return Said {
+            is_error: true,
+            used: line,
+        };
+    }
+    if text::MAX_INPUT < input.len() {
+        let line = filling::copy(b"too long\n", all);
+        return Said {
+            is_error: true,
+            used: line,
+        };
+    }
+    run_said(base, input, all)
+}
+
+// Of a base, n and messages: a line for each node; or the number with which they are refused.
+pub fn read_said(base: u32, n: u32, input: &[u8], out: &mut [u8; MAX_SAID]) -> Said
+    ensures { λ r. ⌜ Says (readText base n (now (input .entry))) r (now (out .entry)) (now (out .exit)) ⌝ }
+{
+    let all: &mut [u8] = out;
+    let read = response::read_messages(input, base, n);
+    if read.number != 0 {
+        let line = put_refused(read.number, all);
+        return Said {
+            is_error: true,
+            used: line,
+        };
+    }
+    let metrics = read.metrics;
+    let lines = put_metrics(&metrics, read.nodes as usize, all);
+    Said {
+        is_error: false,
+        used: lines,
+    }
 }
