@@ -1,6 +1,6 @@
 -- What the program says, by cases; and the part of the input that decides it.
 -- Assumes nothing.
-use mathlib.Core.Path.{_≡_, refl, sym, ap, _∙_}
+use mathlib.Core.Path.{_≡_, refl, sym, ap, ap₂, _∙_}
 use mathlib.Core.Bool.{true, false}
 use mathlib.Core.List.{List, []}
 use mathlib.Core.Logic.{_⊎_, inl, inr, _≢_}
@@ -10,19 +10,34 @@ use lib.ListN.{length, getD, take}
 use lib.Seq.{length-take-le, take-all}
 use borrow.Author.Tests.{lt-ltb, le-ltb, eq-eqb, ne-eqb}
 use Rattle.ancestors.proofs.Cases.{bool-cases, le-or-lt}
+use Rattle.filling.specs.Filling.{Wrote}
+use Rattle.network.specs.Network.{Net}
 use Rattle.network.proofs.Limits.{within-size}
+use Rattle.memory.specs.Layout.{view}
 use Rattle.records.specs.Numbers.{Bytes}
-use Rattle.records.specs.Running.{Running, runOf}
+use Rattle.records.specs.Running.{runOf}
 use Rattle.records.proofs.Each.{each-same}
 use Rattle.settling.proofs.RunCalls.{run-within}
+use Rattle.running.specs.Answers.{Ends}
+use Rattle.running.specs.declared.Ended.{Ended}
 use Rattle.response.specs.Messages.{baseFault, countFault, maxMessages, rowMessages}
-use Rattle.response.specs.Reading.{Reading, readOf, places}
+use Rattle.response.specs.Reading.{readOf, places, Reads}
+use Rattle.response.specs.declared.MetricsRead.{MetricsRead}
 use Rattle.response.proofs.Answering.{count-free}
-use Rattle.response.proofs.Callers.{place-at, read-long}
-use Rattle.text.specs.Text.{maxInput, stopLine, tooLong}
+use Rattle.response.proofs.Callers.{place-at, read-few, read-long}
+use Rattle.text.specs.Text.{maxInput, stopLine, lastLine, tooLong}
+use Rattle.text.proofs.Stopping.{last-stop}
 use Rattle.command.specs.Saying.{Saying, onOutput, onError, refusedLine, metricLine, nodeLines, runText, writeText, metricsText, readText, Says}
 use Rattle.command.specs.Enough.{InputEnough}
 use Rattle.command.specs.declared.Said.{Said}
+
+-- a line for standard error, and bytes for standard output
+module _ {s : Saying} {w e x : List ℕ} {r : ℕ} where
+  pub says-error : s ≡ onError w → Wrote w e x r → Says s (record { «is_error» = true; used = r }) e x
+  says-error p h = rw p (record { is-error = refl; wrote = h })
+
+  pub says-output : s ≡ onOutput w → Wrote w e x r → Says s (record { «is_error» = false; used = r }) e x
+  says-output p h = rw p (record { is-error = refl; wrote = h })
 
 -- the same in other words
 pub says-as : {s t : Saying} {r : Said} {e x : List ℕ} → s ≡ t → Says t r e x → Says s r e x
@@ -30,18 +45,24 @@ says-as p h = rw p h
 
 -- ---- writing
 
-module _ (base : ℕ) (o : Running) where
-  pub run-stops : o .number ≢ 0 → runText base o ≡ onError (stopLine (o .number) (o .place))
+module _ (base : ℕ) (s : List ℕ) (e : Ended) (words : List ℕ) (ends : Ends s e words) where
+  -- a run that is refused anywhere
+  pub run-stops : e .number ≢ 0 → runText base (runOf s) ≡ onError (lastLine (e .number) (e .place))
   unfolding runText
-  run-stops h = rw (ne-eqb (o .number) 0 h)
+  run-stops h =
+      rw (ne-eqb (runOf s .number) 0 (λ z. h (ends .number ∙ z)))
+      (ap onError (ap₂ stopLine (sym (ends .number)) (sym (ends .place)) ∙ sym (last-stop (e .number) (e .place) h)))
 
-  pub run-writes : o .number ≡ 0 → runText base o ≡ onOutput (rowMessages base (o .net))
+  -- one that is not
+  pub run-writes : e .number ≡ 0 → runText base (runOf s) ≡ onOutput (rowMessages base (view words))
   unfolding runText
-  run-writes h = rw (eq-eqb (o .number) 0 h)
+  run-writes h = rw (eq-eqb (runOf s .number) 0 (sym (ends .number) ∙ h)) (ap (λ (x : Net). onOutput (rowMessages base x)) (sym (ends .net)))
 
--- the network of a run has a right number of nodes
-pub run-count : (s : List ℕ) → Bytes s → countFault (runOf s .net .nodes) ≡ false
-run-count s b = let h = within-size (runOf s .net) (run-within s b) in count-free (runOf s .net .nodes) (h .0) (h .1)
+  -- its network has a right number of nodes
+  pub run-count : Bytes s → countFault (view words .nodes) ≡ false
+  run-count b =
+      let h = within-size (runOf s .net) (run-within s b) in
+      ap (λ (x : Net). countFault (x .nodes)) (ends .net) ∙ count-free (runOf s .net .nodes) (h .0) (h .1)
 
 module _ (base : ℕ) (s : List ℕ) where
   pub write-refused : baseFault base ≡ true → writeText base s ≡ onError (refusedLine 13)
@@ -58,22 +79,28 @@ module _ (base : ℕ) (s : List ℕ) where
 
 -- ---- reading
 
-module _ (base n : ℕ) (s : List ℕ) where
-  pub read-refused : readOf base n s .number ≢ 0 → readText base n s ≡ onError (refusedLine (readOf base n s .number))
-  unfolding readText metricsText
-  read-refused h = rw (ne-eqb (readOf base n s .number) 0 h)
-
-  pub read-lines : readOf base n s .number ≡ 0
-      → readText base n s ≡ onOutput (nodeLines (readOf base n s .metrics) (length (readOf base n s .metrics)))
-  unfolding readText metricsText
-  read-lines h = rw (eq-eqb (readOf base n s .number) 0 h)
-
 -- the lines of the metrics in their places
-pub lines-places : (ms : List ℕ) → nodeLines (places ms) (length ms) ≡ nodeLines ms (length ms)
+lines-places : (ms : List ℕ) → nodeLines (places ms) (length ms) ≡ nodeLines ms (length ms)
 unfolding nodeLines
 lines-places ms =
     each-same (λ y. metricLine y (getD (places ms) y 0)) (λ y. metricLine y (getD ms y 0)) 0 (length ms)
     (λ y a b. ap (metricLine y) (place-at ms y (omega arith)))
+
+module _ (base n : ℕ) (s : List ℕ) (r : MetricsRead) (reads : Reads (readOf base n s) r) where
+  pub read-stops : r .number ≢ 0 → readText base n s ≡ onError (refusedLine (r .number))
+  unfolding readText metricsText
+  read-stops h =
+      rw (ne-eqb (readOf base n s .number) 0 (λ z. h (reads .number ∙ z))) (ap (λ (k : ℕ). onError (refusedLine k)) (sym (reads .number)))
+
+  pub read-prints : r .number ≡ 0 → readText base n s ≡ onOutput (nodeLines (r .metrics) (r .nodes))
+  unfolding readText metricsText
+  read-prints h =
+      rw (eq-eqb (readOf base n s .number) 0 (sym (reads .number) ∙ h))
+      (ap onOutput (sym (lines-places (readOf base n s .metrics)) ∙ ap₂ nodeLines (sym (reads .metrics)) (sym (reads .nodes))))
+
+  -- there are not more nodes than 32
+  pub read-most : r .nodes ≤ 32
+  read-most = omega (arith, reads .nodes, read-few base n s)
 
 -- ---- the part of the input that decides
 

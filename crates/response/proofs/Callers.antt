@@ -1,13 +1,13 @@
 -- What a caller knows: the messages written, the metrics in their places, and an input that is too long.
 -- Assumes nothing.
 use mathlib.Core.Path.{_≡_, refl, sym, ap, _∙_}
-use mathlib.Core.Bool.{false}
+use mathlib.Core.Bool.{true, false}
 use mathlib.Core.List.{List, _++_}
 use mathlib.Core.Logic.{_⊎_, inl, inr, _≢_}
 use Prim.Native.Nat.{ℕ, _-_, _<_, _≤_}
 use native.Mathlib.Omega.{arith}
-use lib.ListN.{length, getD, drop, replicate, length-append, List·getD-append}
-use Rattle.ancestors.proofs.Cases.{eq-or-ne}
+use lib.ListN.{length, getD, drop, replicate, List·getD-append}
+use Rattle.ancestors.proofs.Cases.{bool-cases, eq-or-ne}
 use Rattle.network.specs.Faults.{maxNodes}
 use Rattle.network.specs.Network.{Net}
 use Rattle.network.specs.Writing.{Writes, writing}
@@ -15,9 +15,11 @@ use Rattle.network.specs.declared.Written.{Written}
 use Rattle.network.proofs.Effects.{writing-accepted}
 use Rattle.filling.specs.Filling.{Wrote}
 use Rattle.response.specs.Messages.{maxMessages, baseFault, countFault, givenThen, rowMessages, writeNumber, writeOf}
-use Rattle.response.specs.Reading.{readOf, places}
+use Rattle.response.specs.Reading.{bufferFault, Reading, readOf, places}
+use Rattle.response.proofs.Pieces.{ones-size}
 use Rattle.response.proofs.Sizes.{messages-most}
-use Rattle.response.proofs.Answering.{count-says, given-says, given-right, number-of, read-given, read-wrong, wrong-length}
+use Rattle.response.proofs.Buffers.{nodeMetric, metrics-by-node}
+use Rattle.response.proofs.Answering.{count-says, given-says, given-right, number-of, read-given, read-wrong, read-right, wrong-length}
 use Rattle.response.proofs.RoundTrip.{room-enough}
 
 -- base and n are right and there is room for the most: the messages stand at the front of the output
@@ -33,15 +35,24 @@ module _ (base : ℕ) (x : Net) (out : List ℕ) {w : Written} {exit : List ℕ}
         left = writes .output ∙ ap (λ r. r .output) a ∙ ap (λ (j : ℕ). rowMessages base x ++ drop j out) (sym u);
       }
 
--- the metrics in the places of 32 nodes
-module _ (ms : List ℕ) where
-  pub places-most : length ms ≤ length (places ms)
-  unfolding places
-  places-most = omega (arith, length-append ms (replicate (maxNodes - length ms) 0))
+-- a metric in its place
+pub place-at : (ms : List ℕ) (y : ℕ) → y < length ms → getD (places ms) y 0 ≡ getD ms y 0
+unfolding places
+place-at ms y h = List·getD-append ms (replicate (maxNodes - length ms) 0) 0 y h
 
-  pub place-at : (y : ℕ) → y < length ms → getD (places ms) y 0 ≡ getD ms y 0
-  unfolding places
-  place-at y h = List·getD-append ms (replicate (maxNodes - length ms) 0) 0 y h
+-- there are not more metrics than nodes
+pub read-few : (base n : ℕ) (b : List ℕ) → length (readOf base n b .metrics) ≤ maxNodes
+read-few base n b = go (eq-or-ne (givenThen base n 0) 0) (bool-cases (bufferFault base n b))
+  where
+    size : Reading → ℕ
+    size o = length (o .metrics)
+
+    go : (givenThen base n 0 ≡ 0) ⊎ (givenThen base n 0 ≢ 0) → (bufferFault base n b ≡ true) ⊎ (bufferFault base n b ≡ false) → length (readOf base n b .metrics) ≤ maxNodes
+    go (inr g) f = omega (arith, ap size (read-given base n b (givenThen base n 0) refl g))
+    go (inl g) (inl f) = omega (arith, ap size (read-wrong base n b g f))
+    go (inl g) (inr f) =
+        omega
+        (arith, ap size (read-right base n b g f), ap length (metrics-by-node n b), ones-size (nodeMetric b) 0 n, count-says n (given-says base n 0 g .1))
 
 -- inputs that are longer than the most are all refused alike
 pub read-long : (base n : ℕ) (b d : List ℕ) → maxMessages < length b → maxMessages < length d → readOf base n b ≡ readOf base n d
