@@ -1,8 +1,9 @@
--- N read: what is no number, and the digits one by one.
+-- -r and N read: the bytes of the flag, what is no number, and the digits one by one.
 -- Assumes nothing.
 use mathlib.Core.Path.{_≡_, refl, ap, _∙_}
 use mathlib.Core.Bool.{true, false, and-false}
 use mathlib.Core.List.{List, _∷_}
+use mathlib.Core.Logic.{_≢_}
 use Prim.Native.Nat.{ℕ, suc, _+_, _*_, _-_, _<_, _≤_}
 use native.Mathlib.Omega.{arith}
 use native.Mathlib.Numerals.{add-one}
@@ -10,8 +11,23 @@ use lib.Dec.{eqb, ltb}
 use lib.ListN.{length, getD, drop, drop-of-length-le}
 use lib.Seq.{drop-cons}
 use borrow.Author.Tests.{lt-ltb, le-ltb, eq-eqb, ne-eqb}
-use Rattle.command.specs.Arguments.{capped, isDigit, noNumber, digitsAfter, readCount}
+use Rattle.command.specs.Arguments.{isFlag, capped, isDigit, noNumber, digitsAfter, readCount}
 use Rattle.command.specs.declared.CountRead.the-variants as C
+
+-- ---- -r
+
+module _ (t : List ℕ) where
+  pub flag-long : length t ≢ 2 → isFlag t ≡ false
+  unfolding isFlag
+  flag-long h = rw (ne-eqb (length t) 2 h)
+
+  pub flag-first : length t ≡ 2 → getD t 0 0 ≢ 45 → isFlag t ≡ false
+  unfolding isFlag
+  flag-first h f = rw (eq-eqb (length t) 2 h, ne-eqb (getD t 0 0) 45 f)
+
+  pub flag-second : length t ≡ 2 → getD t 0 0 ≡ 45 → isFlag t ≡ eqb (getD t 1 0) 114
+  unfolding isFlag
+  flag-second h f = rw (eq-eqb (length t) 2 h, eq-eqb (getD t 0 0) 45 f)
 
 -- ---- digits
 

@@ -1,4 +1,4 @@
--- Exactly the numbers in decimal are read as N, and exactly the bases of 32 bits as BASE.
+-- Exactly its two bytes are read as -r, exactly the numbers in decimal as N, and exactly the bases of 32 bits as BASE.
 -- Assumes nothing.
 use mathlib.Core.Path.{_≡_, refl, sym, ap, subst, _∙_}
 use mathlib.Core.Bool.{Bool, true, false, cond}
@@ -12,14 +12,31 @@ use borrow.Author.Tests.{ltb-true, ltb-false, eqb-true, eqb-false, eq-eqb, ne-eq
 use Rattle.ancestors.proofs.Cases.{bool-cases, le-or-lt, eq-or-ne, clash, never, and-both}
 use Rattle.text.specs.Text.{decimal}
 use Rattle.text.proofs.Digits.{last, decimal-one, decimal-more}
-use Rattle.command.specs.Arguments.{capped, isDigit, noNumber, digitsAfter, readCount, beforeDot, afterDot, byteThen, bytesAfter, readBase}
-use Rattle.command.specs.Exact.{CountsExact, dotted, BasesExact}
+use Rattle.command.specs.Arguments.{isFlag, capped, isDigit, noNumber, digitsAfter, readCount, beforeDot, afterDot, byteThen, bytesAfter, readBase}
+use Rattle.command.specs.Exact.{flag, FlagExact, CountsExact, dotted, BasesExact}
 use Rattle.command.specs.declared.CountRead.{CountRead}
 use Rattle.command.specs.declared.CountRead.the-variants as C
 use Rattle.command.specs.declared.BaseRead.{BaseRead}
 use Rattle.command.specs.declared.BaseRead.the-variants as B
 use Rattle.command.proofs.Counting.{digit-right, number-empty, number-one, number-more, count-none, count-digits, capped-small}
 use Rattle.command.proofs.Dots.{then-byte, bytes-none}
+
+-- ---- -r
+
+flag-only : (t : List ℕ) → isFlag t ≡ true → t ≡ flag
+unfolding isFlag flag
+flag-only [] e = never false e refl
+flag-only (a ∷ []) e = never false e refl
+flag-only (a ∷ b ∷ []) e =
+    let h = and-both (eqb a 45) (eqb b 114) e in
+    let p = eqb-true a 45 (h .0) in
+    let q = eqb-true b 114 (h .1) in
+    cc
+flag-only (a ∷ b ∷ c ∷ t) e = let h = and-both (eqb (length (a ∷ b ∷ c ∷ t)) 2) _ e in absurd (omega (arith, eqb-true (length (a ∷ b ∷ c ∷ t)) 2 (h .0)))
+
+pub flag-exact : FlagExact
+unfolding isFlag flag
+flag-exact = record { all = refl; only = flag-only }
 
 -- ---- digits
 

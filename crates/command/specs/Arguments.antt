@@ -1,4 +1,4 @@
--- Change request Three, the program `rip`: its arguments N and BASE, read digit by digit.
+-- Change request Three, the program `rip`: its arguments -r, N and BASE; numbers are read digit by digit.
 -- Assumes nothing.
 use mathlib.Core.Bool.{Bool, cond, _&&_, _||_}
 use mathlib.Core.List.{List, [], _∷_}
@@ -9,6 +9,11 @@ use Rattle.command.specs.declared.CountRead.{CountRead}
 use Rattle.command.specs.declared.CountRead.the-variants as C
 use Rattle.command.specs.declared.BaseRead.{BaseRead}
 use Rattle.command.specs.declared.BaseRead.the-variants as B
+
+-- ---- -r
+
+unfoldable pub isFlag : List ℕ → Bool
+isFlag t = eqb (length t) 2 && (eqb (getD t 0 0) 45 && eqb (getD t 1 0) 114)
 
 -- ---- N
 

@@ -1,12 +1,21 @@
--- Change request Three, the program `rip`: which texts are read as N and as BASE.
+-- Change request Three, the program `rip`: which texts are read as -r, N and BASE.
 -- Assumes nothing.
 use mathlib.Core.Path.{_≡_}
-use mathlib.Core.List.{List, _∷_, _++_}
+use mathlib.Core.Bool.{true}
+use mathlib.Core.List.{List, [], _∷_, _++_}
 use Prim.Native.Nat.{ℕ, _/_, _%_, _^_, _<_}
 use Rattle.text.specs.Text.{decimal}
-use Rattle.command.specs.Arguments.{capped, readCount, readBase}
+use Rattle.command.specs.Arguments.{isFlag, capped, readCount, readBase}
 use Rattle.command.specs.declared.CountRead.the-variants as C
 use Rattle.command.specs.declared.BaseRead.the-variants as B
+
+-- -r: exactly its two bytes
+unfoldable pub flag : List ℕ
+flag = 45 ∷ 114 ∷ []
+
+pub record FlagExact : Type 0 where
+  pub all : isFlag flag ≡ true
+  pub only : (t : List ℕ) → isFlag t ≡ true → t ≡ flag
 
 -- N: exactly the numbers in decimal
 pub record CountsExact : Type 0 where

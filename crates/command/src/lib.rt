@@ -4,7 +4,7 @@
 ghost use mathlib.Core.Path.{_≡_};
 ghost use Prim.Native.Nat.{_+_, _*_, _-_, _<_, _≤_};
 ghost use lib.ListN.{length, take, drop};
-ghost use Rattle.command.specs.Arguments.{capped, noNumber, readCount, readBase};
+ghost use Rattle.command.specs.Arguments.{isFlag, capped, noNumber, readCount, readBase};
 ghost use Rattle.command.specs.Inner.{DotAt};
 ghost use mathlib.Core.Bool.{false};
 ghost use Rattle.filling.specs.Filling.{Wrote};
@@ -13,6 +13,21 @@ ghost use Rattle.text.specs.Filled.{Filled};
 ghost use Rattle.records.specs.Running.{runOf};
 ghost use Rattle.response.specs.Messages.{baseFault};
 ghost use Rattle.command.specs.Saying.{refusedLine, metricLine, nodeLines, usageText, runText, writeText, readText, Says};
+
+// ---- -r
+
+// Whether an argument is -r.
+pub fn is_flag(text: &[u8]) -> bool
+    ensures { λ r. ⌜ r ≡ isFlag (now (text .entry)) ⌝ }
+{
+    if text.len() != 2 {
+        return false;
+    }
+    if text[0] != b'-' {
+        return false;
+    }
+    text[1] == b'r'
+}
 
 // ---- N
 
