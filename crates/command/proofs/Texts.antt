@@ -29,15 +29,16 @@ use Rattle.text.specs.Text.{maxInput, stopLine, lastLine, tooLong}
 use Rattle.text.proofs.Stopping.{last-stop}
 use Rattle.command.specs.Saying.{Saying, onOutput, onError, refusedLine, metricLine, nodeLines, runText, writeText, metricsText, readText, Says}
 use Rattle.command.specs.Enough.{InputEnough}
+use Rattle.command.specs.Inner.{Holds}
 use Rattle.command.specs.declared.Said.{Said}
 
 -- a line for standard error, and bytes for standard output
-module _ {s : Saying} {w e x : List ℕ} {r : ℕ} where
-  pub says-error : s ≡ onError w → Wrote w e x r → Says s (record { «is_error» = true; used = r }) e x
-  says-error p h = rw p (record { is-error = refl; wrote = h })
+module _ {s : Saying} {w e x : List ℕ} {k : ℕ} {r : Said} where
+  pub says-error : s ≡ onError w → Wrote w e x k → Holds true k r → Says s r e x
+  says-error p h q = rw p (record { is-error = q .is-error; wrote = rw (q .used-is) h })
 
-  pub says-output : s ≡ onOutput w → Wrote w e x r → Says s (record { «is_error» = false; used = r }) e x
-  says-output p h = rw p (record { is-error = refl; wrote = h })
+  pub says-output : s ≡ onOutput w → Wrote w e x k → Holds false k r → Says s r e x
+  says-output p h q = rw p (record { is-error = q .is-error; wrote = rw (q .used-is) h })
 
 -- the same in other words
 pub says-as : {s t : Saying} {r : Said} {e x : List ℕ} → s ≡ t → Says t r e x → Says s r e x

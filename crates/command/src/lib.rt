@@ -5,7 +5,7 @@ ghost use mathlib.Core.Path.{_≡_};
 ghost use Prim.Native.Nat.{_+_, _*_, _-_, _<_, _≤_};
 ghost use lib.ListN.{length, take, drop};
 ghost use Rattle.command.specs.Arguments.{isFlag, capped, noNumber, readCount, readBase};
-ghost use Rattle.command.specs.Inner.{DotAt};
+ghost use Rattle.command.specs.Inner.{DotAt, Holds};
 ghost use mathlib.Core.Bool.{false};
 ghost use Rattle.filling.specs.Filling.{Wrote};
 ghost use Rattle.text.specs.Text.{maxInput};
@@ -154,6 +154,15 @@ pub struct Said {
 // The bytes of an output with room for all that the program says.
 pub const MAX_SAID: usize = 4096;
 
+fn said_of(error: bool, used: usize) -> Said
+    ensures { λ r. ⌜ Holds error used r ⌝ }
+{
+    Said {
+        is_error: error,
+        used,
+    }
+}
+
 // The most nodes.
 const NODES: usize = network::MAX_NODES as usize;
 
@@ -198,11 +207,10 @@ pub fn usage_said(out: &mut [u8; MAX_SAID]) -> Said
     ensures { λ r. ⌜ Says usageText r (now (out .entry)) (now (out .exit)) ⌝ }
 {
     let all: &mut [u8] = out;
-    let used = filling::copy(b"usage: rip BASE <run >messages, or rip -r BASE N <messages\n", all);
-    Said {
-        is_error: true,
-        used,
-    }
+    said_of(
+        true,
+        filling::copy(b"usage: rip BASE <run >messages, or rip -r BASE N <messages\n", all),
+    )
 }
 
 // Whether a base's last byte isn't 0: then what is written does not go by the input.
@@ -224,17 +232,10 @@ fn run_said(base: u32, input: &[u8], out: &mut [u8]) -> Said
     let mut net = [0u32; memory::WORDS];
     let run = running::run_into(&mut net, input);
     if run.number != 0 {
-        let end = text::put_stop(run.number, run.place, out, 0);
-        return Said {
-            is_error: true,
-            used: end,
-        };
+        return said_of(true, text::put_stop(run.number, run.place, out, 0));
     }
     let written = response::write_messages(&net, base, out);
-    Said {
-        is_error: false,
-        used: written.used,
-    }
+    said_of(false, written.used)
 }
 
 // Of a base and a run: the messages; or why there are none.
@@ -243,18 +244,10 @@ pub fn write_said(base: u32, input: &[u8], out: &mut [u8; MAX_SAID]) -> Said
 {
     let all: &mut [u8] = out;
     if base_refused(base) {
-        let line = put_refused(13, all);
-        return Said {
-            is_error: true,
-            used: line,
-        };
+        return said_of(true, put_refused(13, all));
     }
     if text::MAX_INPUT < input.len() {
-        let line = filling::copy(b"too long\n", all);
-        return Said {
-            is_error: true,
-            used: line,
-        };
+        return said_of(true, filling::copy(b"too long\n", all));
     }
     run_said(base, input, all)
 }
@@ -266,16 +259,8 @@ pub fn read_said(base: u32, n: u32, input: &[u8], out: &mut [u8; MAX_SAID]) -> S
     let all: &mut [u8] = out;
     let read = response::read_messages(input, base, n);
     if read.number != 0 {
-        let line = put_refused(read.number, all);
-        return Said {
-            is_error: true,
-            used: line,
-        };
+        return said_of(true, put_refused(read.number, all));
     }
     let metrics = read.metrics;
-    let lines = put_metrics(&metrics, read.nodes as usize, all);
-    Said {
-        is_error: false,
-        used: lines,
-    }
+    said_of(false, put_metrics(&metrics, read.nodes as usize, all))
 }

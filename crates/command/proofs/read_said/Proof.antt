@@ -9,10 +9,11 @@ use Rattle.command.proofs.read_said.Tie as tie
 
 returns : tie.Need-returns
 returns c =
-    let test = c .before in
+    let put = c .before in
+    let test = put .before in
     let read = test .before .before .read-messages in
     let a = test .before .before .before .before .before .args in
-    says-error (read-stops (a .base) (a .n) (now (a .input)) (read .result) (read .ensures) (test .if1 .taken)) (c .put-refused .ensures)
+    says-error (read-stops (a .base) (a .n) (now (a .input)) (read .result) (read .ensures) (test .if1 .taken)) (put .put-refused .ensures) (c .said-of .ensures)
 
 put-metrics-requires : tie.Need-put-metrics-requires
 put-metrics-requires c κs =
@@ -23,12 +24,14 @@ put-metrics-requires c κs =
 
 returns-2 : tie.Need-returns-2
 returns-2 c =
-    let test = c .before .before .before .before in
+    let put = c .before in
+    let test = put .before .before .before .before in
     let read = test .before .before .read-messages in
     let a = test .before .before .before .before .before .args in
-    says-output (read-prints (a .base) (a .n) (now (a .input)) (read .result) (read .ensures) (test .if1 .left)) (c .put-metrics .ensures)
+    says-output (read-prints (a .base) (a .n) (now (a .input)) (read .result) (read .ensures) (test .if1 .left)) (put .put-metrics .ensures)
+    (c .said-of2 .ensures)
 
 pub read-said-spec : {M : Type 1} → statement M
 read-said-spec =
     tie.close
-    (tie.spec (λ c κs. search needs) (λ c κs. search needs) returns (λ c. search needs) put-metrics-requires returns-2)
+    (tie.spec (λ c κs. search needs) (λ c κs. search needs) (λ c κs. search needs) returns (λ c. search needs) put-metrics-requires (λ c κs. search needs) returns-2)

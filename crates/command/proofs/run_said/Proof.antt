@@ -15,16 +15,16 @@ use Rattle.command.proofs.run_said.Tie as tie
 
 returns : tie.Need-returns
 returns c =
-    let stop = c .before .before in
+    let stop = c .before .before .before in
     let test = stop .before .before in
     let run = test .before .before .run-into in
     let s = test .before .before .before .before .before .before in
     let line = puts-filled 53 (omega arith) (last-most (run .result .number) (run .result .place) (omega arith) (omega arith)) (stop .put-stop .ensures) in
-    says-error (run-stops (s .args .base) (now (s .args .input)) (run .result) _ (run .ensures) (test .if1 .taken)) (added-front (line .added))
+    says-error (run-stops (s .args .base) (now (s .args .input)) (run .result) _ (run .ensures) (test .if1 .taken)) (added-front (line .added)) (c .said-of .ensures)
 
 returns-2 : tie.Need-returns-2
 returns-2 c =
-    let put = c .before .before in
+    let put = c .before .before .before in
     let test = put .before .before .before in
     let run = test .before .before .run-into in
     let known = test .before .before .before .before .before in
@@ -33,6 +33,7 @@ returns-2 c =
     let count = run-count (s .args .base) input (run .result) (run .last .0) (run .ensures) (λ i. omega (arith, known .shared-slice-known .given i)) in
     says-output (run-writes (s .args .base) input (run .result) (run .last .0) (run .ensures) (test .if1 .left))
     (wrote-messages (s .args .base) (view (run .last .0)) (now (s .args .out)) (put .write-messages .ensures) (s .pre .0) count (omega (arith, largest-messages)))
+    (c .said-of2 .ensures)
 
 pub run-said-spec : {M : Type 1} → statement M
 run-said-spec =
@@ -40,8 +41,10 @@ run-said-spec =
     (tie.spec
     (λ c κs. search needs)
     (λ c κs. search needs)
+    (λ c κs. search needs)
     (λ c. search needs)
     returns
+    (λ c κs. search needs)
     (λ c κs. search needs)
     (λ c. search needs)
     returns-2)

@@ -12,7 +12,9 @@ use Rattle.command.proofs.usage_said.Tie as tie
 
 returns : tie.Need-returns
 unfolding usageText usageLine
-returns c = says-error refl (wrote-all _ (now (c .before .before .before .args .out)) (omega arith) (c .copy .ensures))
+returns c =
+    let copy = c .before in
+    says-error refl (wrote-all _ (now (copy .before .before .before .args .out)) (omega arith) (copy .copy .ensures)) (c .said-of .ensures)
 
 pub usage-said-spec : {M : Type 1} → statement M
-usage-said-spec = tie.close (tie.spec (λ c. search needs) (λ c κs. search needs) returns)
+usage-said-spec = tie.close (tie.spec (λ c. search needs) (λ c κs. search needs) (λ c κs. search needs) returns)

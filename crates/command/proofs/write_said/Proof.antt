@@ -12,18 +12,21 @@ use Rattle.command.proofs.write_said.Tie as tie
 
 returns : tie.Need-returns
 returns c =
-    let test = c .before in
+    let put = c .before in
+    let test = put .before in
     let a = test .before .before .before .before .args in
-    says-error (write-refused (a .base) (now (a .input)) (sym (test .before .base-refused .ensures) ∙ test .if1 .taken)) (c .put-refused .ensures)
+    says-error (write-refused (a .base) (now (a .input)) (sym (test .before .base-refused .ensures) ∙ test .if1 .taken)) (put .put-refused .ensures)
+    (c .said-of .ensures)
 
 returns-2 : tie.Need-returns-2
 unfolding maxInput tooLong
 returns-2 c =
-    let long = c .before .before in
+    let copy = c .before in
+    let long = copy .before .before in
     let test = long .before in
     let a = test .before .before .before .before .args in
     says-error (write-long (a .base) (now (a .input)) (sym (test .before .base-refused .ensures) ∙ test .if1 .left) (long .if2 .taken))
-    (wrote-all _ (now (a .out)) (omega arith) (c .copy .ensures))
+    (wrote-all _ (now (a .out)) (omega arith) (copy .copy .ensures)) (c .said-of2 .ensures)
 
 run-said-requires : tie.Need-run-said-requires
 run-said-requires c κs = let test = c .before in (sym (test .before .base-refused .ensures) ∙ test .if1 .left, omega arith)
@@ -42,8 +45,10 @@ write-said-spec =
     (tie.spec
     (λ c κs. search needs)
     (λ c κs. search needs)
+    (λ c κs. search needs)
     returns
     (λ c. search needs)
+    (λ c κs. search needs)
     (λ c κs. search needs)
     returns-2
     run-said-requires
