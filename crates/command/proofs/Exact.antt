@@ -276,9 +276,10 @@ bases-only t v e =
     let d = byte-last-says (((0 * 256 + a .0) * 256 + b .0) * 256 + c .0) (c .1) v (c .4) in
     let dot : List ℕ → List ℕ → List ℕ = λ s r. s ++ (46 ∷ r) in
     let whole : t ≡ decimal (a .0) ++ (46 ∷ (decimal (b .0) ++ (46 ∷ (decimal (c .0) ++ (46 ∷ decimal (d .0)))))) =
-    a .3 ∙ ap (dot (decimal (a .0))) (b .3 ∙ ap (dot (decimal (b .0))) (c .3 ∙ ap (dot (decimal (c .0))) (d .2))) in
-    (omega (arith, a .2, b .2, c .2, d .1, d .3),
-    whole ∙ sym (dotted-bytes (a .0) (b .0) (c .0) (d .0) (a .2) (b .2) (c .2) (d .1)) ∙ ap dotted (sym (d .3)))
+    a .3 ∙ ap (dot (decimal (a .0))) (b .3 ∙ ap (dot (decimal (b .0))) (c .3 ∙ ap (dot (decimal (c .0))) (d .2))) in (
+      omega (arith, a .2, b .2, c .2, d .1, d .3),
+      whole ∙ sym (dotted-bytes (a .0) (b .0) (c .0) (d .0) (a .2) (b .2) (c .2) (d .1)) ∙ ap dotted (sym (d .3)),
+    )
 
 pub bases-exact : BasesExact
 bases-exact = record { all = bases-all; only = bases-only }

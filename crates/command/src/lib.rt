@@ -209,7 +209,10 @@ pub fn usage_said(out: &mut [u8; MAX_SAID]) -> Said
     let all: &mut [u8] = out;
     said_of(
         true,
-        filling::copy(b"usage: rip BASE <run >messages, or rip -r BASE N <messages\n", all),
+        filling::copy(
+            b"usage: rip BASE <run >messages, or rip -r BASE N <messages\n",
+            all,
+        ),
     )
 }
 

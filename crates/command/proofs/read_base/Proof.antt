@@ -108,12 +108,13 @@ loop-again c =
     let dot = count .before .before in
     let l = dot .before .before .loop in
     let t = now (dot .before .before .before .before .args .text) in
-    let s : 2 - l .k ≡ 3 - (l .k + 1) = omega arith in
-    (more t (l .base) (l .at) (l .k) (omega arith) (l .inv .0) ∙
-    bytes-next (2 - l .k) (l .base) (dot .dot-from .ensures) (count .read-count .ensures) _ (number .n .given .1) (c .before .if1 .left) ∙ rw s,
-    omega (arith, dot .dot-from .ensures .within, c .if2 .left),
-    omega arith,
-    next-byte (l .k) (l .base) _ (l .inv .3) (c .before .if1 .left))
+    let s : 2 - l .k ≡ 3 - (l .k + 1) = omega arith in (
+      more t (l .base) (l .at) (l .k) (omega arith) (l .inv .0) ∙
+          bytes-next (2 - l .k) (l .base) (dot .dot-from .ensures) (count .read-count .ensures) _ (number .n .given .1) (c .before .if1 .left) ∙ rw s,
+      omega (arith, dot .dot-from .ensures .within, c .if2 .left),
+      omega arith,
+      next-byte (l .k) (l .base) _ (l .inv .3) (c .before .if1 .left),
+    )
 
 sub-read-count-2 : tie.Need-sub-read-count-2 Inv-loop μ-loop
 sub-read-count-2 c = omega arith
