@@ -1,14 +1,14 @@
 -- Exactly its two bytes are read as -r, exactly the numbers in decimal as N, and exactly the bases of 32 bits as BASE.
 -- Assumes nothing.
-use mathlib.Core.Path.{_≡_, refl, sym, ap, subst, _∙_}
+use mathlib.Core.Path.{_≡_, refl, sym, ap, _∙_}
 use mathlib.Core.Bool.{Bool, true, false, cond}
 use mathlib.Core.List.{List, [], _∷_, _++_, append-assoc, append-nil}
 use mathlib.Core.Logic.{_⊎_, inl, inr, ⊎-elim, _≢_}
 use Prim.Native.Nat.{ℕ, zero, suc, _+_, _*_, _-_, _/_, _%_, _^_, _<_, _≤_}
 use native.Mathlib.Omega.{arith}
 use lib.Dec.{eqb, ltb}
-use lib.ListN.{length, getD}
-use borrow.Author.Tests.{ltb-true, ltb-false, eqb-true, eqb-false, eq-eqb, ne-eqb, le-ltb}
+use lib.ListN.{length}
+use borrow.Author.Tests.{ltb-true, ltb-false, eqb-true, eq-eqb, ne-eqb}
 use Rattle.ancestors.proofs.Cases.{bool-cases, le-or-lt, eq-or-ne, clash, never, and-both}
 use Rattle.text.specs.Text.{decimal}
 use Rattle.text.proofs.Digits.{last, decimal-one, decimal-more}
@@ -153,8 +153,7 @@ counts-only t v e = by-test (bool-cases (noNumber t))
         let k : 0 * 10 + (b - 48) ≡ b - 48 = omega arith in
         let unit : 48 + (b - 48) % 10 ≡ b = omega arith in
         let one : decimal (b - 48) ≡ b ∷ [] = decimal-one (b - 48) (omega arith) ∙ rw unit in
-        let o = digits-only r (b - 48) v (omega (arith, z)) (rw k at (h .1)) in
-        (o .0, ap (λ (l : List ℕ). l ++ r) (sym one) ∙ o .1, o .2)
+        rw one at (digits-only r (b - 48) v (omega (arith, z)) (rw k at (h .1)))
 
     by-bytes : (s : List ℕ) → noNumber s ≡ false → digitsAfter 0 s ≡ C.Count v → (n : ℕ) × (s ≡ decimal n) × (v ≡ capped n)
     by-bytes [] f g = never (noNumber []) (number-empty [] refl) f
@@ -255,17 +254,21 @@ byte-last-says v t w e =
     let q : B.Base (v * 256 + f .0) ≡ B.Base w = f .3 in
     (f .0, f .2, byte-is t (f .0) (f .1) (f .2), cc)
 
--- the four bytes of a base
-dotted-bytes : (a b c d : ℕ) → a ≤ 255 → b ≤ 255 → c ≤ 255 → d ≤ 255
-    → dotted ((((0 * 256 + a) * 256 + b) * 256 + c) * 256 + d) ≡ decimal a ++ (46 ∷ (decimal b ++ (46 ∷ (decimal c ++ (46 ∷ decimal d)))))
-unfolding dotted
-dotted-bytes a b c d ha hb hc hd =
-    let v = (((0 * 256 + a) * 256 + b) * 256 + c) * 256 + d in
-    let pa : v / 16777216 ≡ a = omega arith in
-    let pb : v / 65536 % 256 ≡ b = omega arith in
-    let pc : v / 256 % 256 ≡ c = omega arith in
-    let pd : v % 256 ≡ d = omega arith in
-    rw (pa, pb, pc, pd)
+-- four bytes with dots between are those of a base
+module _ (a b c d : ℕ) (ha : a ≤ 255) (hb : b ≤ 255) (hc : c ≤ 255) (hd : d ≤ 255) where
+  dotted-bytes : dotted ((((0 * 256 + a) * 256 + b) * 256 + c) * 256 + d) ≡ decimal a ++ (46 ∷ (decimal b ++ (46 ∷ (decimal c ++ (46 ∷ decimal d)))))
+  unfolding dotted
+  dotted-bytes =
+      let v = (((0 * 256 + a) * 256 + b) * 256 + c) * 256 + d in
+      let pa : v / 16777216 ≡ a = omega arith in
+      let pb : v / 65536 % 256 ≡ b = omega arith in
+      let pc : v / 256 % 256 ≡ c = omega arith in
+      let pd : v % 256 ≡ d = omega arith in
+      rw (pa, pb, pc, pd)
+
+  base-bytes : {t r s u : List ℕ} {v : ℕ} → t ≡ decimal a ++ (46 ∷ r) → r ≡ decimal b ++ (46 ∷ s) → s ≡ decimal c ++ (46 ∷ u) → u ≡ decimal d
+      → v ≡ (((0 * 256 + a) * 256 + b) * 256 + c) * 256 + d → (v < 2 ^ 32) × (t ≡ dotted v)
+  base-bytes p q x y e = (omega arith, rw (p, q, x, y, e, dotted-bytes))
 
 pub bases-only : (t : List ℕ) (v : ℕ) → readBase t ≡ B.Base v → (v < 2 ^ 32) × (t ≡ dotted v)
 unfolding readBase
@@ -274,12 +277,7 @@ bases-only t v e =
     let b = byte-dot-says 1 (0 * 256 + a .0) (a .1) v (a .4) in
     let c = byte-dot-says 0 ((0 * 256 + a .0) * 256 + b .0) (b .1) v (b .4) in
     let d = byte-last-says (((0 * 256 + a .0) * 256 + b .0) * 256 + c .0) (c .1) v (c .4) in
-    let dot : List ℕ → List ℕ → List ℕ = λ s r. s ++ (46 ∷ r) in
-    let whole : t ≡ decimal (a .0) ++ (46 ∷ (decimal (b .0) ++ (46 ∷ (decimal (c .0) ++ (46 ∷ decimal (d .0)))))) =
-    a .3 ∙ ap (dot (decimal (a .0))) (b .3 ∙ ap (dot (decimal (b .0))) (c .3 ∙ ap (dot (decimal (c .0))) (d .2))) in (
-      omega (arith, a .2, b .2, c .2, d .1, d .3),
-      whole ∙ sym (dotted-bytes (a .0) (b .0) (c .0) (d .0) (a .2) (b .2) (c .2) (d .1)) ∙ ap dotted (sym (d .3)),
-    )
+    base-bytes (a .0) (b .0) (c .0) (d .0) (a .2) (b .2) (c .2) (d .1) (a .3) (b .3) (c .3) (d .2) (d .3)
 
 pub bases-exact : BasesExact
 bases-exact = record { all = bases-all; only = bases-only }

@@ -2,17 +2,16 @@
 //
 // Contracts go by specs/Arguments.antt and specs/Saying.antt and hold for any bytes. No public function has a precondition.
 ghost use mathlib.Core.Path.{_≡_};
-ghost use Prim.Native.Nat.{_+_, _*_, _-_, _<_, _≤_};
-ghost use lib.ListN.{length, take, drop};
-ghost use Rattle.command.specs.Arguments.{isFlag, capped, noNumber, readCount, readBase};
-ghost use Rattle.command.specs.Inner.{DotAt, Holds};
 ghost use mathlib.Core.Bool.{false};
+ghost use Prim.Native.Nat.{_+_, _*_, _-_, _≤_};
+ghost use lib.ListN.{length};
 ghost use Rattle.filling.specs.Filling.{Wrote};
-ghost use Rattle.text.specs.Text.{maxInput};
 ghost use Rattle.text.specs.Filled.{Filled};
 ghost use Rattle.records.specs.Running.{runOf};
 ghost use Rattle.response.specs.Messages.{baseFault};
+ghost use Rattle.command.specs.Arguments.{isFlag, capped, noNumber, readCount, readBase};
 ghost use Rattle.command.specs.Saying.{refusedLine, metricLine, nodeLines, usageText, runText, writeText, readText, Says};
+ghost use Rattle.command.specs.Inner.{DotAt, Holds};
 
 // ---- -r
 

@@ -1,7 +1,7 @@
 -- `command::dot_from` meets its contract. The loop's invariant: no dot was passed.
 -- Assumes nothing.
 use native.Mathlib.Omega.{arith}
-use Prim.Native.Nat.{_-_, _≤_}
+use Prim.Native.Nat.{_-_}
 use lib.ListN.{length}
 use denote.Ref.{now}
 use Rattle.command.proofs.Dots.{Passed, passed-none, passed-next, passed-dot, passed-end}

@@ -1,14 +1,11 @@
 -- `command::put_metrics` meets its contract. The loop's invariant: the lines of the nodes passed stand from the start on, in at most 42 bytes each.
 -- Assumes nothing.
-use borrow.Author.Needs.{needs}
 use native.Mathlib.Omega.{arith}
-use Prim.Native.Nat.{ℕ, _*_, _-_, _≤_}
+use Prim.Native.Nat.{_*_, _-_, _≤_}
 use mathlib.Core.Path.{_≡_, refl, subst}
-use mathlib.Core.List.{List}
 use lib.ListN.{length, getD}
 use denote.Ref.{now}
 use Rattle.records.proofs.Each.{each-zero, each-next}
-use Rattle.filling.specs.Filling.{Wrote}
 use Rattle.filling.proofs.Parts.{added-none, added-front}
 use Rattle.text.specs.Filled.{Filled}
 use Rattle.text.proofs.Filling.{filled-as, filled-on}

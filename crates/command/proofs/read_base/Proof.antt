@@ -8,7 +8,7 @@ use mathlib.Core.List.{List}
 use lib.ListN.{length, take, drop, length-drop}
 use lib.Seq.{take-all}
 use denote.Ref.{now}
-use Rattle.command.specs.Arguments.{bytesAfter, readCount, readBase}
+use Rattle.command.specs.Arguments.{bytesAfter, readBase}
 use Rattle.command.proofs.Dots.{bytes-unreadable, bytes-large, bytes-next, bytes-short, last-unreadable, last-large, last-byte, three-bytes, next-byte}
 use Rattle.command.proofs.read_base.Statement.{statement}
 use Rattle.command.proofs.read_base.Tie as tie

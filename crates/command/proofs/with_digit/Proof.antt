@@ -1,7 +1,6 @@
 -- `command::with_digit` meets its contract: within 32 bits or not.
 -- Assumes nothing.
 use borrow.Author.Needs.{needs}
-use native.Mathlib.Omega.{arith}
 use mathlib.Core.Path.{sym}
 use Rattle.command.proofs.Counting.{capped-small, capped-large}
 use Rattle.command.proofs.with_digit.Statement.{statement}
