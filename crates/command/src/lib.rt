@@ -162,9 +162,6 @@ fn said_of(error: bool, used: usize) -> Said
     }
 }
 
-// The most nodes.
-const NODES: usize = network::MAX_NODES as usize;
-
 // The line of a refusal.
 fn put_refused(number: u8, out: &mut [u8]) -> usize
     requires { ⌜ 29 ≤ length (now out) ⌝ }
@@ -185,7 +182,7 @@ fn put_metric(node: usize, metric: u8, out: &mut [u8], at: usize) -> usize
 }
 
 // The lines of n nodes.
-fn put_metrics(metrics: &[u8; NODES], n: usize, out: &mut [u8]) -> usize
+fn put_metrics(metrics: &[u8; response::NODES], n: usize, out: &mut [u8]) -> usize
     requires { ⌜ n ≤ 32 ⌝ }
     requires { ⌜ 1344 ≤ length (now out) ⌝ }
     ensures { λ r. ⌜ Wrote (nodeLines (now (metrics .entry)) n) (now (out .entry)) (now (out .exit)) r ⌝ }
@@ -236,7 +233,7 @@ fn run_said(base: u32, input: &[u8], out: &mut [u8]) -> Said
     if run.number != 0 {
         return said_of(true, text::put_stop(run.number, run.place, out, 0));
     }
-    let written = response::write_messages(&net, base, out);
+    let written = messages::write_messages(&net, base, out);
     said_of(false, written.used)
 }
 
@@ -259,7 +256,7 @@ pub fn read_said(base: u32, n: u32, input: &[u8], out: &mut [u8; MAX_SAID]) -> S
     ensures { λ r. ⌜ Says (readText base n (now (input .entry))) r (now (out .entry)) (now (out .exit)) ⌝ }
 {
     let all: &mut [u8] = out;
-    let read = response::read_messages(input, base, n);
+    let read = messages::read_messages(input, base, n);
     if read.number != 0 {
         return said_of(true, put_refused(read.number, all));
     }

@@ -100,12 +100,12 @@ fn write_messages(base: u32) {
 
 fn read_messages(base: u32, count: u32) {
     let mut room = [0u8; MESSAGES_ROOM];
-    let messages = input::read_all(&mut room);
-    if messages.failed {
+    let input = input::read_all(&mut room);
+    if input.failed {
         os::fail(b"rip: standard input");
         return;
     }
-    let end = messages.bytes;
+    let end = input.bytes;
     let mut text = [0u8; command::MAX_SAID];
     let said = command::read_said(base, count, &room[..end], &mut text);
     let n = said.used;
