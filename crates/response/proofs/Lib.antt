@@ -9,3 +9,5 @@ pub mod Buffers
 -- what the calls answer, and the theorems
 pub mod Answering
 pub mod RoundTrip
+-- what a caller knows
+pub mod Callers

@@ -14,7 +14,7 @@ use Rattle.ancestors.proofs.Cases.{le-or-lt}
 use Rattle.text.specs.Text.{decimalIn, decimal}
 
 -- the last digit of n
-abbrev last : ℕ → List ℕ
+abbrev pub last : ℕ → List ℕ
 last n = (48 + n % 10) ∷ []
 
 -- the number of digits at most never decides
@@ -27,12 +27,12 @@ enough (suc j) (suc k) n h g =
     (le-or-lt 10 n)
 
 -- a number below 10 has one digit
-decimal-one : (n : ℕ) → n < 10 → decimal n ≡ last n
+pub decimal-one : (n : ℕ) → n < 10 → decimal n ≡ last n
 unfolding decimal decimalIn
 decimal-one n h = rw (lt-ltb n 10 h)
 
 -- another one has the digits of its tenth, and the last one
-decimal-more : (n : ℕ) → 10 ≤ n → decimal n ≡ decimal (n / 10) ++ last n
+pub decimal-more : (n : ℕ) → 10 ≤ n → decimal n ≡ decimal (n / 10) ++ last n
 unfolding decimal decimalIn
 decimal-more n h = rw (le-ltb n 10 h) (ap (λ (l : List ℕ). l ++ last n) (enough n (suc (n / 10)) (n / 10) (omega arith) (omega arith)))
 

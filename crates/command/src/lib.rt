@@ -1,0 +1,265 @@
+// What the program `rip` makes of its arguments and its input: each argument read, and each byte that it writes.
+//
+// Contracts go by specs/Arguments.antt and specs/Saying.antt and hold for any bytes. No public function has a precondition.
+ghost use mathlib.Core.Path.{_≡_};
+ghost use mathlib.Core.Bool.{false};
+ghost use Prim.Native.Nat.{_+_, _*_, _-_, _≤_};
+ghost use lib.ListN.{length};
+ghost use Rattle.filling.specs.Filling.{Wrote};
+ghost use Rattle.text.specs.Filled.{Filled};
+ghost use Rattle.records.specs.Running.{runOf};
+ghost use Rattle.response.specs.Messages.{baseFault};
+ghost use Rattle.command.specs.Arguments.{isFlag, capped, noNumber, readCount, readBase};
+ghost use Rattle.command.specs.Saying.{refusedLine, metricLine, nodeLines, usageText, runText, writeText, readText, Says};
+ghost use Rattle.command.specs.Inner.{DotAt, Holds};
+
+// ---- -r
+
+// Whether an argument is -r.
+pub fn is_flag(text: &[u8]) -> bool
+    ensures { λ r. ⌜ r ≡ isFlag (now (text .entry)) ⌝ }
+{
+    if text.len() != 2 {
+        return false;
+    }
+    if text[0] != b'-' {
+        return false;
+    }
+    text[1] == b'r'
+}
+
+// ---- N
+
+// An argument N: a number in decimal without zeros in front; one too large for 32 bits counts as the largest of 32 bits.
+pub enum CountRead {
+    Unreadable,
+    Count(u32),
+}
+
+// The largest number of 32 bits.
+const LARGEST: u64 = 0xffff_ffff;
+
+// Whether there are no bytes, or a zero in front of others.
+fn no_number(text: &[u8]) -> bool
+    ensures { λ r. ⌜ r ≡ noNumber (now (text .entry)) ⌝ }
+{
+    if text.len() == 0 {
+        return true;
+    }
+    if text.len() == 1 {
+        return false;
+    }
+    text[0] == b'0'
+}
+
+// The number with one digit more.
+fn with_digit(n: u32, byte: u8) -> u32
+    requires { ⌜ 48 ≤ byte ⌝ }
+    requires { ⌜ byte ≤ 57 ⌝ }
+    ensures { λ r. ⌜ r ≡ capped (n * 10 + (byte - 48)) ⌝ }
+{
+    let next = n as u64 * 10 + (byte - 48) as u64;
+    if LARGEST < next {
+        return 0xffff_ffff;
+    }
+    next as u32
+}
+
+// Reads N.
+pub fn read_count(text: &[u8]) -> CountRead
+    ensures { λ r. ⌜ r ≡ readCount (now (text .entry)) ⌝ }
+{
+    if no_number(text) {
+        return CountRead::Unreadable;
+    }
+    let mut n: u32 = 0;
+    let mut i: usize = 0;
+    while i < text.len() {
+        let byte = text[i];
+        if byte < b'0' {
+            return CountRead::Unreadable;
+        }
+        if b'9' < byte {
+            return CountRead::Unreadable;
+        }
+        n = with_digit(n, byte);
+        i = i + 1;
+    }
+    CountRead::Count(n)
+}
+
+// ---- BASE
+
+// An argument BASE: four numbers of at most 255 in decimal without zeros in front, with dots between, the first the most significant byte.
+pub enum BaseRead {
+    Unreadable,
+    Base(u32),
+}
+
+// The place of the first dot from a place on; the length where there is none.
+fn dot_from(text: &[u8], start: usize) -> usize
+    requires { ⌜ start ≤ length (now text) ⌝ }
+    ensures { λ r. ⌜ DotAt (now (text .entry)) start r ⌝ }
+{
+    let mut at = start;
+    while at < text.len() {
+        if text[at] == b'.' {
+            return at;
+        }
+        at = at + 1;
+    }
+    at
+}
+
+// Reads BASE.
+pub fn read_base(text: &[u8]) -> BaseRead
+    ensures { λ r. ⌜ r ≡ readBase (now (text .entry)) ⌝ }
+{
+    let mut base: u32 = 0;
+    let mut at: usize = 0;
+    let mut k: usize = 0;
+    while k < 3 {
+        let dot = dot_from(text, at);
+        let CountRead::Count(n) = read_count(&text[at..dot]) else {
+            return BaseRead::Unreadable;
+        };
+        if 255 < n {
+            return BaseRead::Unreadable;
+        }
+        if dot == text.len() {
+            return BaseRead::Unreadable;
+        }
+        base = base * 256 + n;
+        at = dot + 1;
+        k = k + 1;
+    }
+    let CountRead::Count(last) = read_count(&text[at..]) else {
+        return BaseRead::Unreadable;
+    };
+    if 255 < last {
+        return BaseRead::Unreadable;
+    }
+    BaseRead::Base(base * 256 + last)
+}
+
+// ---- lines
+
+// What the program says: the bytes at the front of the output, for standard error or for standard output.
+pub struct Said {
+    pub is_error: bool,
+    pub used: usize,
+}
+
+// The bytes of an output with room for all that the program says.
+pub const MAX_SAID: usize = 4096;
+
+fn said_of(error: bool, used: usize) -> Said
+    ensures { λ r. ⌜ Holds error used r ⌝ }
+{
+    Said {
+        is_error: error,
+        used,
+    }
+}
+
+// The line of a refusal.
+fn put_refused(number: u8, out: &mut [u8]) -> usize
+    requires { ⌜ 29 ≤ length (now out) ⌝ }
+    ensures { λ r. ⌜ Wrote (refusedLine number) (now (out .entry)) (now (out .exit)) r ⌝ }
+{
+    let end = text::put_number(b"refused ", number as usize, out, 0);
+    text::put_text(b"\n", out, end)
+}
+
+// The line of a node.
+fn put_metric(node: usize, metric: u8, out: &mut [u8], at: usize) -> usize
+    requires { ⌜ at + 42 ≤ length (now out) ⌝ }
+    ensures { λ r. ⌜ Filled 42 (metricLine node metric) (now (out .entry)) (now (out .exit)) at r ⌝ }
+{
+    let next = text::put_number(b"", node, out, at);
+    let end = text::put_number(b" ", metric as usize, out, next);
+    text::put_text(b"\n", out, end)
+}
+
+// The lines of n nodes.
+fn put_metrics(metrics: &[u8; response::NODES], n: usize, out: &mut [u8]) -> usize
+    requires { ⌜ n ≤ 32 ⌝ }
+    requires { ⌜ 1344 ≤ length (now out) ⌝ }
+    ensures { λ r. ⌜ Wrote (nodeLines (now (metrics .entry)) n) (now (out .entry)) (now (out .exit)) r ⌝ }
+{
+    let mut at: usize = 0;
+    let mut node: usize = 0;
+    while node < n {
+        at = put_metric(node, metrics[node], out, at);
+        node = node + 1;
+    }
+    at
+}
+
+// ---- what the program says
+
+// Of arguments that can't be read.
+pub fn usage_said(out: &mut [u8; MAX_SAID]) -> Said
+    ensures { λ r. ⌜ Says usageText r (now (out .entry)) (now (out .exit)) ⌝ }
+{
+    let all: &mut [u8] = out;
+    said_of(
+        true,
+        filling::copy(
+            b"usage: rip BASE <run >messages, or rip -r BASE N <messages\n",
+            all,
+        ),
+    )
+}
+
+// Whether a base's last byte isn't 0: then what is written does not go by the input.
+pub fn base_refused(base: u32) -> bool
+    ensures { λ r. ⌜ r ≡ baseFault base ⌝ }
+{
+    if base % 256 != 0 {
+        return true;
+    }
+    false
+}
+
+// Of a run.
+fn run_said(base: u32, input: &[u8], out: &mut [u8]) -> Said
+    requires { ⌜ baseFault base ≡ false ⌝ }
+    requires { ⌜ 4096 ≤ length (now out) ⌝ }
+    ensures { λ r. ⌜ Says (runText base (runOf (now (input .entry)))) r (now (out .entry)) (now (out .exit)) ⌝ }
+{
+    let mut net = [0u32; memory::WORDS];
+    let run = running::run_into(&mut net, input);
+    if run.number != 0 {
+        return said_of(true, text::put_stop(run.number, run.place, out, 0));
+    }
+    let written = messages::write_messages(&net, base, out);
+    said_of(false, written.used)
+}
+
+// Of a base and a run: the messages; or why there are none.
+pub fn write_said(base: u32, input: &[u8], out: &mut [u8; MAX_SAID]) -> Said
+    ensures { λ r. ⌜ Says (writeText base (now (input .entry))) r (now (out .entry)) (now (out .exit)) ⌝ }
+{
+    let all: &mut [u8] = out;
+    if base_refused(base) {
+        return said_of(true, put_refused(13, all));
+    }
+    if text::MAX_INPUT < input.len() {
+        return said_of(true, filling::copy(b"too long\n", all));
+    }
+    run_said(base, input, all)
+}
+
+// Of a base, n and messages: a line for each node; or the number with which they are refused.
+pub fn read_said(base: u32, n: u32, input: &[u8], out: &mut [u8; MAX_SAID]) -> Said
+    ensures { λ r. ⌜ Says (readText base n (now (input .entry))) r (now (out .entry)) (now (out .exit)) ⌝ }
+{
+    let all: &mut [u8] = out;
+    let read = messages::read_messages(input, base, n);
+    if read.number != 0 {
+        return said_of(true, put_refused(read.number, all));
+    }
+    let metrics = read.metrics;
+    said_of(false, put_metrics(&metrics, read.nodes as usize, all))
+}
