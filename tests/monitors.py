@@ -586,11 +586,12 @@ def learn(tally, daemons, link, program):
             return
         shown = {case.address(node) + "/32": daemons.shown(metric) for node, metric in enumerate(case.metrics)}
         expected = {prefix: Route(metric, SENDER, 0) for prefix, metric in shown.items() if metric is not None}
-        tally.check(name + ", routes", wrong or differing(under(daemons.routes(), case.base), expected))
+        wrong = wrong or differing(under(daemons.routes(), case.base), expected)
+        tally.check(name + ", routes", wrong)
         if hasattr(daemons, "kernel"):
             vias = dict.fromkeys(expected, SENDER)
-            until(lambda: mark in daemons.kernel() and under(daemons.kernel(), case.base) == vias, 1)
-            tally.check(name + ", the kernel's routes", wrong or differing(under(daemons.kernel(), case.base), vias))
+            until(lambda: mark in daemons.kernel() and (wrong or under(daemons.kernel(), case.base) == vias), 2)
+            tally.check(name + ", the kernel's routes", differing(under(daemons.kernel(), case.base), vias))
         known = {prefix: route for prefix, route in known.items() if prefix not in shown}
         known.update(expected)
     others = {prefix: route for prefix, route in daemons.routes().items() if not prefix.startswith(MARKS)}
