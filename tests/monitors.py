@@ -181,15 +181,19 @@ def version(*command):
     return next((text for text in done.stdout.splitlines() if re.search(r"[0-9]\.[0-9]", text)), "no version")
 
 
-def write(program, case):
+def call(*command, given):
     """What the program writes, and what is at fault with how it ended."""
     try:
-        done = subprocess.run([program, case.base], input=case.run, capture_output=True, timeout=20)
+        done = subprocess.run(command, input=given, capture_output=True, timeout=20)
     except (OSError, subprocess.TimeoutExpired) as problem:
         return b"", "the program: %s" % problem
     if done.returncode != 0 or done.stderr:
         return done.stdout, "the program ended with status %d and errors %r" % (done.returncode, done.stderr[:200])
     return done.stdout, ""
+
+
+def write(program, case):
+    return call(program, case.base, given=case.run)
 
 
 def messages(data):
@@ -295,14 +299,10 @@ def wrong_counts(case, data, packets):
 
 
 def read_back(program, case, data):
-    """What the program prints of the messages that it wrote."""
-    try:
-        command = [program, "-r", case.base, str(len(case.metrics))]
-        done = subprocess.run(command, input=data, capture_output=True, text=False, timeout=20)
-    except (OSError, subprocess.TimeoutExpired) as problem:
-        return "the program: %s" % problem
+    """What is at fault with what the program reads in its own messages."""
+    printed, wrong = call(program, "-r", case.base, str(len(case.metrics)), given=data)
     lines = ["%d %d" % pair for pair in enumerate(case.metrics)]
-    return differing(done.stdout.decode(errors="replace").splitlines(), lines)
+    return wrong or differing(printed.decode(errors="replace").splitlines(), lines)
 
 
 def tshark(program, folder):
@@ -500,9 +500,7 @@ class Frr(Daemons):
         self.configure("zebra.conf", "")
         self.configure("ripd.conf", self.CONFIGURATION % (before, after))
         self.start("/usr/lib/frr/zebra", "-f", "/run/frr/zebra.conf", "--log", "stdout")
-        limit = time.monotonic() + PATIENCE
-        while not os.path.exists("/run/frr/zserv.api") and time.monotonic() < limit:
-            time.sleep(0.1)
+        until(lambda: os.path.exists("/run/frr/zserv.api"))
         self.start("/usr/lib/frr/ripd", "-f", "/run/frr/ripd.conf", "--log", "stdout")
 
     def configure(self, name, text):
