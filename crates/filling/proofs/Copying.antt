@@ -9,7 +9,7 @@ use lib.ListN.{length, take, drop, set, getD}
 use lib.Seq.{length-take-le, take-suc, drop-cons, set-at}
 use borrow.Author.Tests.{lt-ltb, le-ltb}
 use Rattle.filling.specs.Filling.{Wrote, copied}
-use Rattle.filling.proofs.Parts.{wrote-as, rest-room, part-size}
+use Rattle.filling.proofs.Parts.{wrote-as, part-size}
 
 -- one byte more of the bytes b is copied
 pub wrote-next : (b e x : List ℕ) (i : ℕ) → Wrote (take i b) e x i → i < length b → i < length e → Wrote (take (i + 1) b) e (set x i (getD b i 0)) (i + 1)
@@ -37,11 +37,6 @@ module _ (b e : List ℕ) where
 
   pub wrote-all : {x : List ℕ} {r : ℕ} → length b ≤ length e → Wrote (copied b e) e x r → Wrote b e x r
   wrote-all m h = wrote-as (sym (copied-all m)) h
-
--- in the rest of an output, which is lent from a place on
-pub copied-rest : (b e : List ℕ) (a : ℕ) {x : List ℕ} {r : ℕ} → a + length b ≤ length e
-    → Wrote (copied b (take (length e - a) (drop a e))) (take (length e - a) (drop a e)) x r → Wrote b (take (length e - a) (drop a e)) x r
-copied-rest b e a m h = wrote-all b (take (length e - a) (drop a e)) (rest-room e a (omega arith) (length b) m) h
 
 -- in a part of an output that is lent from a place on and has room for them
 pub copied-part : (b e : List ℕ) (a k : ℕ) {x : List ℕ} {r : ℕ} → length b ≤ k → a + k ≤ length e

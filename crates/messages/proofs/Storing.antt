@@ -1,27 +1,25 @@
 -- Entries and messages read one by one: a wrong field, and metrics stored in their places.
 -- Assumes nothing.
-use mathlib.Core.Path.{_≡_, refl, sym, ap, ap₂, subst, _∙_}
-use mathlib.Core.Bool.{Bool, true, false, cond, not, _||_}
-use mathlib.Core.List.{List, [], _∷_, _++_}
+use mathlib.Core.Path.{_≡_, refl, sym, subst, _∙_}
+use mathlib.Core.Bool.{Bool, true, false, cond}
+use mathlib.Core.List.{List, [], _∷_}
 use mathlib.Core.Logic.{_⊎_, inl, inr, _≢_}
-use Prim.Native.Nat.{ℕ, suc, _+_, _*_, _-_, _%_, _<_, _≤_}
+use Prim.Native.Nat.{ℕ, _+_, _*_, _-_, _%_, _<_, _≤_}
 use native.Mathlib.Numerals.{add-one}
-use native.Mathlib.Nat.{zero-add}
 use native.Mathlib.Omega.{arith}
-use lib.ListN.{length, take, drop, set, getD, length-drop}
+use lib.ListN.{length, take, drop, set, length-drop}
 use lib.Seq.{getD-take, take-all}
 use borrow.Author.Tests.{eq-eqb, not-true, not-false}
 use Rattle.ancestors.proofs.Cases.{bool-cases, never}
-use Rattle.network.specs.Faults.{maxNodes}
 use Rattle.network.specs.Round.{some}
-use Rattle.network.proofs.Marking.{some-here, some-none, some-not}
+use Rattle.network.proofs.Marking.{some-here}
 use Rattle.records.specs.Numbers.{Bytes, num8, num16, num32}
 use Rattle.records.specs.Image.{each}
 use Rattle.records.proofs.Each.{each-zero, each-next}
 use Rattle.filling.specs.Filling.{Added}
 use Rattle.filling.proofs.Parts.{added-none, added-as, added-byte, added-on}
-use Rattle.response.specs.Messages.{infinity, address, entryLength, headerLength, messageCount, firstNode, entryCount, messagesLength}
-use Rattle.response.specs.Reading.{metricFault, entryFault, entryMetric, headerFault, entryFrom, messageFault, messageMetrics, fullLength, messageFrom, bufferFault, bufferMetrics}
+use Rattle.response.specs.Messages.{infinity, entryLength, headerLength, messageCount, firstNode, entryCount, messagesLength}
+use Rattle.response.specs.Reading.{entryFault, entryMetric, headerFault, entryFrom, messageFault, messageMetrics, fullLength, messageFrom, bufferFault, bufferMetrics}
 use Rattle.messages.specs.Inner.{Stored, EntriesRead, MessageRead}
 use Rattle.response.proofs.Sizes.{nodesBefore, before-first, before-next, before-here, before-all}
 use Rattle.response.proofs.Fields.{metric-says, entry-says, header-says, header-by, header-word, header-same}

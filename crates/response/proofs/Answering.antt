@@ -1,7 +1,7 @@
 -- What the calls answer: 13 and 3 for what is given, then 6 or 14, else the messages or the metrics.
 -- Assumes nothing.
 use mathlib.Core.Path.{_≡_, refl, sym, ap, _∙_}
-use mathlib.Core.Bool.{Bool, true, false, cond, not, _||_, or-true}
+use mathlib.Core.Bool.{Bool, true, false, cond, or-true}
 use mathlib.Core.List.{List, [], _++_}
 use mathlib.Core.Logic.{_⊎_, inl, inr, _≢_}
 use Prim.Native.Nat.{ℕ, _+_, _-_, _%_, _<_, _≤_}

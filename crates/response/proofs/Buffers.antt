@@ -1,14 +1,13 @@
 -- Messages with no wrong field are those written for their metrics, and those written have no wrong field and these metrics.
 -- Assumes nothing.
-use mathlib.Core.Path.{_≡_, refl, sym, ap, subst, _∙_}
-use mathlib.Core.Bool.{Bool, false, _||_}
+use mathlib.Core.Path.{_≡_, sym, ap, subst, _∙_}
+use mathlib.Core.Bool.{false}
 use mathlib.Core.List.{List, [], _∷_, _++_, append-nil, append-assoc}
 use Prim.Native.Nat.{ℕ, zero, suc, _+_, _*_, _-_, _/_, _%_, _^_, _<_, _≤_}
 use native.Mathlib.Nat.{zero-add}
 use native.Mathlib.Omega.{arith}
-use lib.Dec.{eqb}
-use lib.ListN.{length, take, drop, getD, length-drop}
-use lib.Seq.{take-all, drop-drop, drop-append-add}
+use lib.ListN.{length, take, drop, length-drop}
+use lib.Seq.{take-all, drop-append-add}
 use borrow.Author.Tests.{eqb-true, not-false}
 use Rattle.ancestors.proofs.Cases.{eqb-same, or-neither}
 use Rattle.network.specs.Round.{some}
@@ -20,7 +19,7 @@ use Rattle.records.proofs.Each.{each-same, each-shift, each-zero, each-next}
 use Rattle.response.specs.Messages.{address, entry, entryLength, header, headerLength, entries, message, mostEntries, messageCount, firstNode, entryCount, messages, messagesLength}
 use Rattle.response.specs.Reading.{metricFault, entryFault, entryMetric, headerFault, entryFrom, messageFault, messageMetrics, fullLength, messageFrom, bufferFault, bufferMetrics}
 use Rattle.response.proofs.Pieces.{take-next, each-size, each-put, each-at}
-use Rattle.response.proofs.Sizes.{entry-size, header-size, entries-size, message-size, nodesBefore, before-first, before-next, before-here, message-place, before-all, entry-count-within, each-grouped, before-size, messages-size}
+use Rattle.response.proofs.Sizes.{entry-size, header-size, nodesBefore, before-first, before-next, before-here, message-place, before-all, entry-count-within, each-grouped, before-size, messages-size}
 use Rattle.response.proofs.Fields.{entry-says, entry-back, written-metric, written-entry, header-says, header-back, written-header}
 
 -- ---- metrics by node

@@ -1,7 +1,7 @@
 -- The fields of an entry and of a header, as bytes and back, and metrics within their limits.
 -- Assumes nothing.
 use mathlib.Core.Path.{_≡_, refl, sym, ap, _∙_}
-use mathlib.Core.Bool.{Bool, true, false, cond, not, _||_}
+use mathlib.Core.Bool.{true, false, cond, _||_}
 use mathlib.Core.List.{List, [], _∷_, _++_}
 use mathlib.Core.Logic.{_⊎_, inl, inr, _≢_}
 use Prim.Native.Nat.{ℕ, suc, _+_, _*_, _/_, _%_, _^_, _<_, _≤_}
@@ -12,10 +12,10 @@ use lib.ListN.{length, take, drop, getD}
 use lib.Seq.{drop-cons, sets}
 use borrow.Author.Tests.{eq-eqb, eqb-true, eqb-false, ne-eqb, lt-ltb, le-ltb, ltb-false, not-false}
 use Rattle.ancestors.specs.Ancestors.{hops}
-use Rattle.ancestors.proofs.Cases.{bool-cases, le-or-lt, eq-or-ne, never, eqb-same, or-neither}
+use Rattle.ancestors.proofs.Cases.{bool-cases, le-or-lt, eq-or-ne, eqb-same, or-neither}
 use Rattle.network.specs.Network.{Row, none, root, via}
 use Rattle.records.specs.Numbers.{Bytes, be8, be16, be32, num8, num16, num32}
-use Rattle.records.proofs.NumberLaws.{be8-of, be16-of, be32-of, num32-of}
+use Rattle.records.proofs.NumberLaws.{be16-of, be32-of, num32-of}
 use Rattle.filling.specs.Filling.{Wrote, copied}
 use Rattle.filling.proofs.Fronts.{Front, none as front-none, more}
 use Rattle.filling.proofs.Fronts.{front as front-of}

@@ -1,10 +1,10 @@
 -- Reading accepts exactly what is written for some metrics, what writing writes for a network reads back, and 648 bytes are always enough.
 -- Assumes nothing.
-use mathlib.Core.Path.{_≡_, refl, sym, ap, subst, _∙_}
-use mathlib.Core.Bool.{true, false, cond}
-use mathlib.Core.List.{List, [], _∷_, _++_}
+use mathlib.Core.Path.{_≡_, sym, ap, _∙_}
+use mathlib.Core.Bool.{false}
+use mathlib.Core.List.{List, [], _∷_}
 use mathlib.Core.Logic.{_⊎_, inl, inr, _≢_}
-use Prim.Native.Nat.{ℕ, _+_, _%_, _^_, _<_, _≤_}
+use Prim.Native.Nat.{ℕ, _^_, _<_}
 use native.Mathlib.Nat.{zero-add}
 use native.Mathlib.Omega.{arith}
 use lib.ListN.{length, getD, take}
@@ -14,8 +14,8 @@ use Rattle.network.specs.Network.{Net}
 use Rattle.network.proofs.Effects.{writing-accepted}
 use Rattle.records.specs.Numbers.{Bytes}
 use Rattle.records.specs.Image.{each}
-use Rattle.response.specs.Messages.{metric, address, messages, baseFault, countFault, givenThen, rowMessages, writeNumber, writeOf, maxMessages}
-use Rattle.response.specs.Reading.{metricFault, bufferMetrics, readOf}
+use Rattle.response.specs.Messages.{metric, address, messages, baseFault, countFault, givenThen, rowMessages, writeNumber, writeOf}
+use Rattle.response.specs.Reading.{metricFault}
 use Rattle.response.specs.RoundTrip.{Given, Metrics, messagesFor, Accepts, ReadsWritten, rowMetrics, ReadsBack, RoomEnough}
 use Rattle.response.proofs.Pieces.{ones-size, ones-at, ones-list}
 use Rattle.response.proofs.Sizes.{messages-most}

@@ -9,7 +9,7 @@ use Rattle.network.specs.Faults.{maxNodes}
 use Rattle.records.specs.Numbers.{be8, be16, be32}
 use Rattle.records.specs.Image.{each}
 use Rattle.records.proofs.Each.{each-zero, each-last, each-next, each-split}
-use Rattle.response.specs.Messages.{address, entry, entryLength, header, headerLength, entries, message, mostEntries, messageCount, firstNode, entryCount, messages, messagesLength, maxMessages}
+use Rattle.response.specs.Messages.{address, entry, entryLength, header, headerLength, entries, message, messageCount, firstNode, entryCount, messages, messagesLength, maxMessages}
 use Rattle.response.specs.Reading.{fullLength}
 use Rattle.response.proofs.Pieces.{each-size}
 

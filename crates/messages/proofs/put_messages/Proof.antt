@@ -2,7 +2,7 @@
 -- Assumes nothing.
 use borrow.Author.Needs.{needs}
 use native.Mathlib.Omega.{arith}
-use Prim.Native.Nat.{ℕ, _+_, _*_, _-_, _≤_}
+use Prim.Native.Nat.{ℕ, _-_, _≤_}
 use mathlib.Core.Path.{_≡_, refl, subst}
 use lib.ListN.{length}
 use denote.Ref.{now}
@@ -10,10 +10,10 @@ use Rattle.memory.specs.Layout.{view}
 use Rattle.records.specs.Image.{each}
 use Rattle.records.proofs.Each.{each-zero, each-next}
 use Rattle.filling.specs.Filling.{Wrote, Added}
-use Rattle.filling.proofs.Parts.{added-none, added-as, added-on, added-long, added-front}
-use Rattle.response.specs.Messages.{headerLength, entryLength, message, firstNode, entryCount, messageCount, messages, rowMessages}
+use Rattle.filling.proofs.Parts.{added-none, added-as, added-on, added-front}
+use Rattle.response.specs.Messages.{message, firstNode, entryCount, messageCount, messages, rowMessages}
 use Rattle.messages.specs.Inner.{rowMetric}
-use Rattle.response.proofs.Sizes.{nodesBefore, before-size, message-room}
+use Rattle.response.proofs.Sizes.{before-size, message-room}
 use Rattle.messages.proofs.put_messages.Statement.{statement}
 use Rattle.messages.proofs.put_messages.Tie as tie
 

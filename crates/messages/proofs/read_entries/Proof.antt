@@ -3,7 +3,7 @@
 use borrow.Author.Needs.{needs}
 use native.Mathlib.Omega.{arith}
 use Prim.Native.Nat.{ℕ, _+_, _*_, _-_, _≤_}
-use mathlib.Core.Path.{_≡_, refl, sym, ap, subst, _∙_}
+use mathlib.Core.Path.{_≡_, subst}
 use mathlib.Core.Bool.{true, false}
 use lib.ListN.{length, length-set}
 use denote.Ref.{now}

@@ -3,7 +3,7 @@
 use borrow.Author.Needs.{needs}
 use native.Mathlib.Omega.{arith}
 use borrow.Author.Tests.{not-true, not-false}
-use mathlib.Core.Path.{_≡_, refl, sym, ap, subst, _∙_}
+use mathlib.Core.Path.{refl, sym, subst, _∙_}
 use denote.Ref.{now}
 use Rattle.response.specs.Reading.{Reading, Reads}
 use Rattle.response.proofs.Answering.{base-says, count-says, given-says, read-given, read-wrong, read-right, wrong-length, stored-places}
