@@ -48,6 +48,7 @@ usageLine =
 
 -- ---- arguments that can't be read
 
+-- the usage
 unfoldable pub usageText : Saying
 usageText = onError usageLine
 
@@ -67,6 +68,7 @@ writeText base input = cond (baseFault base) (onError (refusedLine 13)) (cond (l
 unfoldable pub metricsText : Reading → Saying
 metricsText o = cond (eqb (o .number) 0) (onOutput (nodeLines (o .metrics) (length (o .metrics)))) (onError (refusedLine (o .number)))
 
+-- of base, n and messages
 unfoldable pub readText : ℕ → ℕ → List ℕ → Saying
 readText base n input = metricsText (readOf base n input)
 

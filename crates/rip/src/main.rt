@@ -1,9 +1,9 @@
 // The program for RIP monitors: `rip BASE <run >messages` writes the rows of a run's network as Response messages, and `rip -r BASE N <messages`
 // prints the metrics of messages.
 //
-// `command` reads the arguments and makes what is written, and `input` reads.
-use command::BaseRead;
-use command::CountRead;
+// `arguments` reads the arguments, `input` standard input, and `command` makes what is written.
+use arguments::BaseRead;
+use arguments::CountRead;
 use input::Input;
 use libc::STDERR_FILENO;
 use libc::STDOUT_FILENO;
@@ -23,7 +23,7 @@ fn base_argument(i: usize) -> BaseRead {
     if os::errno() != 0 {
         return BaseRead::Unreadable;
     }
-    command::read_base(&text[..n])
+    arguments::read_base(&text[..n])
 }
 
 fn count_argument(i: usize) -> CountRead {
@@ -32,7 +32,7 @@ fn count_argument(i: usize) -> CountRead {
     if os::errno() != 0 {
         return CountRead::Unreadable;
     }
-    command::read_count(&text[..n])
+    arguments::read_count(&text[..n])
 }
 
 fn is_flag_first() -> bool {
@@ -41,7 +41,7 @@ fn is_flag_first() -> bool {
     if os::errno() != 0 {
         return false;
     }
-    command::is_flag(&text[..n])
+    arguments::is_flag(&text[..n])
 }
 
 // ---- what is written

@@ -12,14 +12,14 @@ use borrow.Author.Tests.{ltb-true, ltb-false, eqb-true, eq-eqb, ne-eqb}
 use Rattle.ancestors.proofs.Cases.{bool-cases, le-or-lt, eq-or-ne, clash, never, and-both}
 use Rattle.text.specs.Text.{decimal}
 use Rattle.text.proofs.Digits.{last, decimal-one, decimal-more}
-use Rattle.command.specs.Arguments.{isFlag, capped, isDigit, noNumber, digitsAfter, readCount, beforeDot, afterDot, byteThen, bytesAfter, readBase}
-use Rattle.command.specs.Exact.{flag, FlagExact, CountsExact, dotted, BasesExact}
-use Rattle.command.specs.declared.CountRead.{CountRead}
-use Rattle.command.specs.declared.CountRead.the-variants as C
-use Rattle.command.specs.declared.BaseRead.{BaseRead}
-use Rattle.command.specs.declared.BaseRead.the-variants as B
-use Rattle.command.proofs.Counting.{digit-right, number-empty, number-one, number-more, count-none, count-digits, capped-small}
-use Rattle.command.proofs.Dots.{then-byte, bytes-none}
+use Rattle.arguments.specs.Arguments.{isFlag, capped, isDigit, noNumber, digitsAfter, readCount, beforeDot, afterDot, byteThen, bytesAfter, readBase}
+use Rattle.arguments.specs.Exact.{flag, FlagExact, CountsExact, dotted, BasesExact}
+use Rattle.arguments.specs.declared.CountRead.{CountRead}
+use Rattle.arguments.specs.declared.CountRead.the-variants as C
+use Rattle.arguments.specs.declared.BaseRead.{BaseRead}
+use Rattle.arguments.specs.declared.BaseRead.the-variants as B
+use Rattle.arguments.proofs.Counting.{digit-right, number-empty, number-one, number-more, count-none, count-digits, capped-small}
+use Rattle.arguments.proofs.Dots.{then-byte, bytes-none}
 
 -- ---- -r
 

@@ -1,12 +1,12 @@
--- `command::dot_from` meets its contract. The loop's invariant: no dot was passed.
+-- `arguments::dot_from` meets its contract. The loop's invariant: no dot was passed.
 -- Assumes nothing.
 use native.Mathlib.Omega.{arith}
 use Prim.Native.Nat.{_-_}
 use lib.ListN.{length}
 use denote.Ref.{now}
-use Rattle.command.proofs.Dots.{Passed, passed-none, passed-next, passed-dot, passed-end}
-use Rattle.command.proofs.dot_from.Statement.{statement}
-use Rattle.command.proofs.dot_from.Tie as tie
+use Rattle.arguments.proofs.Dots.{Passed, passed-none, passed-next, passed-dot, passed-end}
+use Rattle.arguments.proofs.dot_from.Statement.{statement}
+use Rattle.arguments.proofs.dot_from.Tie as tie
 
 abbrev Inv-loop : tie.InvT-loop
 Inv-loop text start at₀ at = Passed text start at

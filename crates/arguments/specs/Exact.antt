@@ -5,9 +5,9 @@ use mathlib.Core.Bool.{true}
 use mathlib.Core.List.{List, [], _∷_, _++_}
 use Prim.Native.Nat.{ℕ, _/_, _%_, _^_, _<_}
 use Rattle.text.specs.Text.{decimal}
-use Rattle.command.specs.Arguments.{isFlag, capped, readCount, readBase}
-use Rattle.command.specs.declared.CountRead.the-variants as C
-use Rattle.command.specs.declared.BaseRead.the-variants as B
+use Rattle.arguments.specs.Arguments.{isFlag, capped, readCount, readBase}
+use Rattle.arguments.specs.declared.CountRead.the-variants as C
+use Rattle.arguments.specs.declared.BaseRead.the-variants as B
 
 -- -r: exactly its two bytes
 unfoldable pub flag : List ℕ

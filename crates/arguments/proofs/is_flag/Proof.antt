@@ -1,11 +1,11 @@
--- `command::is_flag` meets its contract: the length, then each byte decides.
+-- `arguments::is_flag` meets its contract: the length, then each byte decides.
 -- Assumes nothing.
 use borrow.Author.Needs.{needs}
 use mathlib.Core.Path.{sym}
 use denote.Ref.{now}
-use Rattle.command.proofs.Counting.{flag-long, flag-first, flag-second}
-use Rattle.command.proofs.is_flag.Statement.{statement}
-use Rattle.command.proofs.is_flag.Tie as tie
+use Rattle.arguments.proofs.Counting.{flag-long, flag-first, flag-second}
+use Rattle.arguments.proofs.is_flag.Statement.{statement}
+use Rattle.arguments.proofs.is_flag.Tie as tie
 
 returns : tie.Need-returns
 returns c = sym (flag-long (now (c .before .args .text)) (c .if1 .taken))

@@ -11,8 +11,8 @@ use lib.Dec.{eqb}
 use lib.ListN.{length, getD, drop, drop-of-length-le}
 use lib.Seq.{drop-cons}
 use borrow.Author.Tests.{lt-ltb, le-ltb, eq-eqb, ne-eqb}
-use Rattle.command.specs.Arguments.{isFlag, capped, isDigit, noNumber, digitsAfter, readCount}
-use Rattle.command.specs.declared.CountRead.the-variants as C
+use Rattle.arguments.specs.Arguments.{isFlag, capped, isDigit, noNumber, digitsAfter, readCount}
+use Rattle.arguments.specs.declared.CountRead.the-variants as C
 
 -- ---- -r
 

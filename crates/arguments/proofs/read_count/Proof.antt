@@ -1,4 +1,4 @@
--- `command::read_count` meets its contract. The loop's invariant: the digits passed stand for n.
+-- `arguments::read_count` meets its contract. The loop's invariant: the digits passed stand for n.
 -- Assumes nothing.
 use borrow.Author.Needs.{needs}
 use native.Mathlib.Omega.{arith}
@@ -6,10 +6,10 @@ use Prim.Native.Nat.{_-_, _≤_}
 use mathlib.Core.Path.{_≡_, sym, _∙_}
 use lib.ListN.{length, getD, drop}
 use denote.Ref.{now}
-use Rattle.command.specs.Arguments.{digitsAfter, readCount}
-use Rattle.command.proofs.Counting.{digit-right, digit-low, digit-high, digits-end, digits-next, digits-wrong, count-none, count-digits}
-use Rattle.command.proofs.read_count.Statement.{statement}
-use Rattle.command.proofs.read_count.Tie as tie
+use Rattle.arguments.specs.Arguments.{digitsAfter, readCount}
+use Rattle.arguments.proofs.Counting.{digit-right, digit-low, digit-high, digits-end, digits-next, digits-wrong, count-none, count-digits}
+use Rattle.arguments.proofs.read_count.Statement.{statement}
+use Rattle.arguments.proofs.read_count.Tie as tie
 
 abbrev Inv-loop : tie.InvT-loop
 Inv-loop text n₀ i₀ n i = (readCount text ≡ digitsAfter n (drop i text)) × (i ≤ length text)

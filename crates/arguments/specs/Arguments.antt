@@ -5,13 +5,14 @@ use mathlib.Core.List.{List, [], _∷_}
 use Prim.Native.Nat.{ℕ, zero, suc, _+_, _*_, _-_, _^_, min}
 use lib.Dec.{eqb, ltb}
 use lib.ListN.{length, getD}
-use Rattle.command.specs.declared.CountRead.{CountRead}
-use Rattle.command.specs.declared.CountRead.the-variants as C
-use Rattle.command.specs.declared.BaseRead.{BaseRead}
-use Rattle.command.specs.declared.BaseRead.the-variants as B
+use Rattle.arguments.specs.declared.CountRead.{CountRead}
+use Rattle.arguments.specs.declared.CountRead.the-variants as C
+use Rattle.arguments.specs.declared.BaseRead.{BaseRead}
+use Rattle.arguments.specs.declared.BaseRead.the-variants as B
 
 -- ---- -r
 
+-- the two bytes "-r"
 unfoldable pub isFlag : List ℕ → Bool
 isFlag t = eqb (length t) 2 && (eqb (getD t 0 0) 45 && eqb (getD t 1 0) 114)
 

@@ -1,4 +1,4 @@
--- `command::read_base` meets its contract. The loop's invariant: the numbers passed stand for base, and the others begin at a place.
+-- `arguments::read_base` meets its contract. The loop's invariant: the numbers passed stand for base, and the others begin at a place.
 -- Assumes nothing.
 use borrow.Author.Needs.{needs}
 use native.Mathlib.Omega.{arith}
@@ -8,10 +8,10 @@ use mathlib.Core.List.{List}
 use lib.ListN.{length, take, drop, length-drop}
 use lib.Seq.{take-all}
 use denote.Ref.{now}
-use Rattle.command.specs.Arguments.{bytesAfter, readBase}
-use Rattle.command.proofs.Dots.{bytes-unreadable, bytes-large, bytes-next, bytes-short, last-unreadable, last-large, last-byte, three-bytes, next-byte}
-use Rattle.command.proofs.read_base.Statement.{statement}
-use Rattle.command.proofs.read_base.Tie as tie
+use Rattle.arguments.specs.Arguments.{bytesAfter, readBase}
+use Rattle.arguments.proofs.Dots.{bytes-unreadable, bytes-large, bytes-next, bytes-short, last-unreadable, last-large, last-byte, three-bytes, next-byte}
+use Rattle.arguments.proofs.read_base.Statement.{statement}
+use Rattle.arguments.proofs.read_base.Tie as tie
 
 abbrev Inv-loop : tie.InvT-loop
 Inv-loop text base₀ at₀ k₀ base at k = (readBase text ≡ bytesAfter (3 - k) base (drop at text)) × (at ≤ length text) × (k ≤ 3) × (base < 256 ^ k)

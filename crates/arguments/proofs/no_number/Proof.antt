@@ -1,12 +1,12 @@
--- `command::no_number` meets its contract: none, one or more bytes.
+-- `arguments::no_number` meets its contract: none, one or more bytes.
 -- Assumes nothing.
 use borrow.Author.Needs.{needs}
 use native.Mathlib.Omega.{arith}
 use mathlib.Core.Path.{sym}
 use denote.Ref.{now}
-use Rattle.command.proofs.Counting.{number-empty, number-one, number-more}
-use Rattle.command.proofs.no_number.Statement.{statement}
-use Rattle.command.proofs.no_number.Tie as tie
+use Rattle.arguments.proofs.Counting.{number-empty, number-one, number-more}
+use Rattle.arguments.proofs.no_number.Statement.{statement}
+use Rattle.arguments.proofs.no_number.Tie as tie
 
 returns : tie.Need-returns
 returns c = sym (number-empty (now (c .before .args .text)) (c .if1 .taken))

@@ -1,10 +1,10 @@
--- `command::with_digit` meets its contract: within 32 bits or not.
+-- `arguments::with_digit` meets its contract: within 32 bits or not.
 -- Assumes nothing.
 use borrow.Author.Needs.{needs}
 use mathlib.Core.Path.{sym}
-use Rattle.command.proofs.Counting.{capped-small, capped-large}
-use Rattle.command.proofs.with_digit.Statement.{statement}
-use Rattle.command.proofs.with_digit.Tie as tie
+use Rattle.arguments.proofs.Counting.{capped-small, capped-large}
+use Rattle.arguments.proofs.with_digit.Statement.{statement}
+use Rattle.arguments.proofs.with_digit.Tie as tie
 
 returns : tie.Need-returns
 returns c = sym (capped-large _ (c .if1 .taken))

@@ -10,13 +10,13 @@ use native.Mathlib.Numerals.{add-one}
 use lib.ListN.{length, getD, take, drop, length-drop, drop-of-length-le}
 use lib.Seq.{drop-cons, take-suc, getD-drop}
 use borrow.Author.Tests.{lt-ltb, le-ltb, eq-eqb, ne-eqb}
-use Rattle.command.specs.Arguments.{beforeDot, afterDot, byteThen, bytesAfter, readCount}
-use Rattle.command.specs.Inner.{DotAt}
-use Rattle.command.specs.declared.CountRead.{CountRead}
-use Rattle.command.specs.declared.CountRead.the-variants as C
-use Rattle.command.specs.declared.BaseRead.{BaseRead}
-use Rattle.command.specs.declared.BaseRead.the-variants as B
-use Rattle.command.proofs.Counting.{number-empty, count-none}
+use Rattle.arguments.specs.Arguments.{beforeDot, afterDot, byteThen, bytesAfter, readCount}
+use Rattle.arguments.specs.Inner.{DotAt}
+use Rattle.arguments.specs.declared.CountRead.{CountRead}
+use Rattle.arguments.specs.declared.CountRead.the-variants as C
+use Rattle.arguments.specs.declared.BaseRead.{BaseRead}
+use Rattle.arguments.specs.declared.BaseRead.the-variants as B
+use Rattle.arguments.proofs.Counting.{number-empty, count-none}
 
 -- ---- the first dot
 
