@@ -9,9 +9,10 @@ use Prim.Native.Nat.{ℕ, _<_, _≤_}
 use native.Mathlib.Omega.{arith}
 use borrow.Author.Tests.{lt-ltb, lt-leb}
 use Rattle.ancestors.specs.Ancestors.{own, hops}
-use Rattle.ancestors.proofs.Cases.{eqb-same}
+use Rattle.ancestors.proofs.Cases.{never, eqb-same}
 use Rattle.network.specs.Faults.{maxNodes, nodeFault, pairFault}
 use Rattle.network.specs.Network.{Row, none, root, via, Report, empty, told, Net, outcome}
+use Rattle.network.proofs.FaultLaws.{node-free}
 use Rattle.network.proofs.Effects.{outcome-number, refused-net, accepted-net}
 use Rattle.memory.specs.Layout.{cell, nodeRow, netOf, frameIn, look, view, wide, arcCosts, heldLabels, heldLists}
 use Rattle.memory.specs.Answers.{Leaves, Starts, RowAnswer, rowHops, readRow, rowMeans, CostAnswer, readCost, costMeans, HeldAnswer, readHeld, heldMeans}
@@ -82,6 +83,10 @@ module _ (x : Net) (y : ℕ) (r : RowRead) (said : rowMeans r ≡ readRow x y) w
   pub said-refused : r ≡ R.Refused → nodeFault (x .nodes) y ≡ true
   unfolding readRow rowMeans
   said-refused e = refused (λ (a : RowAnswer). a .number) (nodeFault (x .nodes) y) _ _ _ (sym (ap rowMeans e) ∙ said) refl refl
+
+  -- a node is not refused
+  pub not-refused : y < x .nodes → r ≡ R.Refused → ⊥
+  not-refused below e = never (nodeFault (x .nodes) y) (said-refused e) (node-free (x .nodes) y below)
 
   -- y is a node and has the row w
   row-said : (w : Row) (k : ℕ) → rowMeans r ≡ record { number = 0; row = w; hops = k } → (nodeFault (x .nodes) y ≡ false) × (x .row y ≡ w) × (k ≡ rowHops w)

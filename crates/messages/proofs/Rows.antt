@@ -1,22 +1,15 @@
 -- The metric of a row by what `memory` answers.
 -- Assumes nothing.
 use mathlib.Core.Path.{_≡_}
-use Prim.Native.Nat.{ℕ, _<_}
-use Rattle.ancestors.proofs.Cases.{never}
-use Rattle.network.specs.Faults.{nodeFault}
+use Prim.Native.Nat.{ℕ}
 use Rattle.network.specs.Network.{Net}
-use Rattle.network.proofs.FaultLaws.{node-free}
 use Rattle.memory.specs.Answers.{readRow, rowMeans}
 use Rattle.memory.specs.declared.RowRead.{RowRead}
 use Rattle.memory.specs.declared.RowRead.the-variants as R
-use Rattle.memory.proofs.Laws.{said-refused, said-none, said-origin, said-route}
+use Rattle.memory.proofs.Laws.{said-none, said-origin, said-route}
 use Rattle.response.specs.Messages.{infinity, hopsMetric, metric}
 
 module _ (x : Net) (y : ℕ) (r : RowRead) (said : rowMeans r ≡ readRow x y) where
-  -- a node is not refused
-  pub not-refused : y < x .nodes → r ≡ R.Refused → ⊥
-  not-refused below e = never (nodeFault (x .nodes) y) (said-refused x y r said e) (node-free (x .nodes) y below)
-
   pub metric-none : r ≡ R.NoRoute → metric (x .row y) ≡ infinity
   unfolding metric
   metric-none e = rw (said-none x y r said e .1)

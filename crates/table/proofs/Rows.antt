@@ -2,23 +2,16 @@
 -- Assumes nothing.
 use mathlib.Core.Path.{_≡_}
 use mathlib.Core.List.{_++_}
-use Prim.Native.Nat.{ℕ, _<_}
-use Rattle.ancestors.proofs.Cases.{never}
-use Rattle.network.specs.Faults.{nodeFault}
+use Prim.Native.Nat.{ℕ}
 use Rattle.network.specs.Network.{Net}
-use Rattle.network.proofs.FaultLaws.{node-free}
 use Rattle.memory.specs.Answers.{readRow, rowMeans}
 use Rattle.memory.specs.declared.RowRead.{RowRead}
 use Rattle.memory.specs.declared.RowRead.the-variants as R
-use Rattle.memory.proofs.Laws.{said-refused, said-none, said-origin, said-route}
+use Rattle.memory.proofs.Laws.{said-none, said-origin, said-route}
 use Rattle.text.specs.Text.{field}
 use Rattle.table.specs.Text.{noRoute, originFields, fields}
 
 module _ (x : Net) (y : ℕ) (r : RowRead) (said : rowMeans r ≡ readRow x y) where
-  -- a node is not refused
-  pub not-refused : y < x .nodes → r ≡ R.Refused → ⊥
-  not-refused below e = never (nodeFault (x .nodes) y) (said-refused x y r said e) (node-free (x .nodes) y below)
-
   -- no route
   pub fields-none : r ≡ R.NoRoute → fields (x .row y) ≡ noRoute
   unfolding fields

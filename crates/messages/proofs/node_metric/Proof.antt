@@ -4,7 +4,8 @@ use borrow.Author.Needs.{needs}
 use mathlib.Core.Path.{sym, _∙_}
 use denote.Ref.{now}
 use Rattle.memory.specs.Layout.{view}
-use Rattle.messages.proofs.Rows.{not-refused, metric-none, metric-origin, metric-route}
+use Rattle.memory.proofs.Laws.{not-refused}
+use Rattle.messages.proofs.Rows.{metric-none, metric-origin, metric-route}
 use Rattle.messages.proofs.node_metric.Statement.{statement}
 use Rattle.messages.proofs.node_metric.Tie as tie
 

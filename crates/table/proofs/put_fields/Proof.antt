@@ -4,12 +4,13 @@ use borrow.Author.Needs.{needs}
 use native.Mathlib.Omega.{arith}
 use denote.Ref.{now}
 use Rattle.memory.specs.Layout.{view}
+use Rattle.memory.proofs.Laws.{not-refused}
 use Rattle.text.specs.Text.{field}
 use Rattle.text.proofs.Digits.{long-digits}
 use Rattle.text.proofs.Filling.{filled-as}
 use Rattle.text.proofs.Putting.{puts-filled}
 use Rattle.table.specs.Text.{noRoute, originFields}
-use Rattle.table.proofs.Rows.{not-refused, fields-none, fields-origin, fields-route}
+use Rattle.table.proofs.Rows.{fields-none, fields-origin, fields-route}
 use Rattle.table.proofs.put_fields.Statement.{statement}
 use Rattle.table.proofs.put_fields.Tie as tie
 
