@@ -1,8 +1,8 @@
 /*
- * Microseconds to a call, the proved one beside the plain C one: rounds, opening, image writing, runs, the C call, and the writing and reading of
- * RIP messages; and how a round grows with the number of nodes. Each line measures the two sides in turn, a few dozen microseconds each, and takes the least of many such turns, so that other
- * load meets both alike and leaves some turns alone. Before and after each line both sides are held to the same network and the same answers, and at
- * the end to the same answers for damaged images and messages; the exit status is not 0 where they differ.
+ * Microseconds to a call, the proved one beside the plain C one: rounds, opening, image writing, runs, the C call, and RIP messages written and read;
+ * and how a round grows with the number of nodes. Each line measures the two sides in turn, a few dozen microseconds each, and takes the least of
+ * many such turns, so that other load meets both alike and leaves some turns alone. Before and after each line both sides are held to the same
+ * network and the same answers, and at the end to the same answers for damaged images and messages; the exit status is not 0 where they differ.
  */
 #include <stdio.h>
 #include <string.h>
