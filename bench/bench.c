@@ -1,8 +1,8 @@
 /*
- * Microseconds to a call, the proved one beside the plain C one: rounds, opening, image writing, runs and the C call; and how a round grows with
- * the number of nodes. Each line measures the two sides in turn, a few dozen microseconds each, and takes the least of many such turns, so that other
- * load meets both alike and leaves some turns alone. Before and after each line both sides are held to the same network and the same answers, and at
- * the end to the same answers for damaged images; the exit status is not 0 where they differ.
+ * Microseconds to a call, the proved one beside the plain C one: rounds, opening, image writing, runs, the C call, and RIP messages written and read;
+ * and how a round grows with the number of nodes. Each line measures the two sides in turn, a few dozen microseconds each, and takes the least of
+ * many such turns, so that other load meets both alike and leaves some turns alone. Before and after each line both sides are held to the same
+ * network and the same answers, and at the end to the same answers for damaged images and messages; the exit status is not 0 where they differ.
  */
 #include <stdio.h>
 #include <string.h>
@@ -16,6 +16,8 @@ extern uint8_t bench_full_round(uint32_t *net);
 extern void bench_open(const uint8_t *in, uint64_t size, uint64_t *answer, uint32_t *net);
 extern void bench_run(const uint8_t *in, uint64_t size, uint64_t *answer, uint32_t *net);
 extern void bench_image(const uint32_t *net, uint8_t *out, uint64_t room, uint64_t *answer);
+extern void bench_write_messages(const uint32_t *net, uint32_t base, uint8_t *out, uint64_t room, uint64_t *answer);
+extern void bench_read_messages(const uint8_t *in, uint64_t size, uint32_t base, uint32_t n, uint64_t *answer);
 
 #define NODES 32
 #define WORDS 3200
@@ -23,6 +25,9 @@ extern void bench_image(const uint32_t *net, uint8_t *out, uint64_t room, uint64
 #define LONG_TURNS 27
 #define ROUNDS 1000000
 #define SETS 16
+#define BASE 0x0a200700u
+#define MAX_MESSAGES 648
+#define READ_WORDS (2 + NODES)
 
 static uint32_t words[WORDS];
 static struct plain_net plain;
@@ -320,12 +325,136 @@ static void damaged_images(void)
     held(numbers == (0x3f | 7u << 10), "numbers of damaged images");
 }
 
+/* ---- messages: what both sides answer is number and length, or number, nodes and the metrics of 32 nodes, all in words */
+
+static uint32_t base, nodes;
+static uint64_t room, proved_read[READ_WORDS], plain_read[READ_WORDS];
+
+static void proved_messages(void) { bench_write_messages(words, base, proved_out, room, proved_answer); }
+static void plain_messages(void) { plain_answer[0] = (uint64_t)plain_write_messages(&plain, base, plain_out, room, &plain_answer[1]); }
+static void proved_metrics(void) { bench_read_messages(file, size, base, nodes, proved_read); }
+
+static void plain_metrics(void)
+{
+    uint8_t metrics[NODES];
+    plain_read[0] = (uint64_t)plain_read_messages(file, size, base, nodes, &plain_read[1], metrics);
+    for (int k = 0; k < NODES; k++)
+        plain_read[2 + k] = metrics[k];
+}
+
+static int same_messages(void)
+{
+    memset(proved_out, 0xff, sizeof proved_out);
+    memset(plain_out, 0xff, sizeof plain_out);
+    proved_messages();
+    plain_messages();
+    return !memcmp(proved_answer, plain_answer, 2 * sizeof *plain_answer) && !memcmp(proved_out, plain_out, sizeof plain_out);
+}
+
+static int same_metrics(void)
+{
+    memset(proved_read, 0xff, sizeof proved_read);
+    memset(plain_read, 0xff, sizeof plain_read);
+    proved_metrics();
+    plain_metrics();
+    return !memcmp(proved_read, plain_read, sizeof plain_read);
+}
+
+/* the settled chain of n nodes, node k after node k - 1: every count of hops */
+static void chain_network(uint32_t n)
+{
+    memset(words, 0, sizeof words);
+    memset(&plain, 0, sizeof plain);
+    words[0] = plain.n = n;
+    plain.row_list[0] = 1;
+    for (uint32_t r = 1; r < n; r++)
+        held(bench_change(words, r - 1, r, 1) == plain_change(&plain, r - 1, r, 1), "change");
+    for (uint32_t k = 0; k < n; k++) {
+        proved_full();
+        plain_full();
+    }
+}
+
+/* the messages of the network that both sides have, in the file */
+static void message_file(void)
+{
+    base = BASE;
+    nodes = plain.n;
+    room = MAX_MESSAGES;
+    held(plain_write_messages(&plain, base, file, room, &size) == 0, "messages");
+}
+
+static void message_line(const char *writing, const char *reading, uint32_t n)
+{
+    int count = 1 + 1000 / (int)n;
+    message_file();
+    held(same_messages() && proved_answer[0] == 0, writing);
+    print(writing, n, measure(proved_messages, plain_messages, TURNS, count));
+    held(same_messages(), writing);
+    held(same_metrics() && proved_read[0] == 0, reading);
+    print(reading, n, measure(proved_metrics, plain_metrics, TURNS, count));
+    held(same_metrics(), reading);
+}
+
+static void message_lines(void)
+{
+    for (uint32_t n = 4; n <= NODES; n *= 2) {
+        full_network(n);
+        message_line("write messages, dense", "read messages, dense", n);
+    }
+    chain_network(NODES);
+    message_line("write messages, a chain", "read messages, a chain", NODES);
+}
+
+/* those of the chain with every value of every byte, alone and with another byte changed; every length; other bases and counts of nodes */
+static void damaged_messages(void)
+{
+    static uint8_t right[MAX_MESSAGES];
+    uint32_t written = 0, read = 0;
+    int alike = 1;
+    chain_network(NODES);
+    message_file();
+    memcpy(right, file, sizeof right);
+    for (uint64_t at = 0; at < sizeof right; at++)
+        for (int value = 0; value < 256; value++)
+            for (int two = 0; two < 2; two++) {
+                memcpy(file, right, sizeof right);
+                if (two)
+                    file[next() % sizeof right] = (uint8_t)next();
+                file[at] = (uint8_t)value;
+                alike &= same_metrics();
+                read |= 1u << plain_read[0];
+            }
+    memcpy(file, right, sizeof right);
+    file[sizeof right] = 0;
+    for (base = BASE - 1; base <= BASE + 1; base++)
+        for (nodes = 0; nodes <= NODES + 1; nodes++)
+            for (size = 0; size <= sizeof right + 1; size++) {
+                alike &= same_metrics();
+                read |= 1u << plain_read[0];
+            }
+    held(alike, "read messages, damaged");
+    held(read == (1u | 1u << 3 | 3u << 13), "numbers of damaged messages");
+    alike = 1;
+    for (base = BASE - 1; base <= BASE + 1; base++)
+        for (uint32_t n = 0; n <= NODES; n++)
+            for (room = 0; room <= sizeof right + 1; room++) {
+                words[0] = plain.n = n;
+                alike &= same_messages();
+                written |= 1u << plain_answer[0];
+            }
+    held(alike, "write messages, other networks");
+    held(written == (1u | 1u << 3 | 1u << 6 | 1u << 13), "numbers of messages written");
+}
+
 int main(void)
 {
     title("microseconds");
     round_lines();
     file_lines();
+    message_lines();
     growth_lines();
     damaged_images();
+    damaged_messages();
     return bad;
 }

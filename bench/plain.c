@@ -3,6 +3,11 @@
 
 #define MAX_LABEL 2031585u
 #define MAX_RUN 1048576
+/* in a message: command and version; family and tag; the mask; the most entries */
+#define HEADER 0x02020000u
+#define FAMILY 0x00020000u
+#define MASK 0xffffffffu
+#define ENTRIES 25
 
 static const uint16_t grades[16] = {0, 600, 480, 380, 300, 240, 190, 150, 120, 95, 75, 60, 48, 38, 30, 24};
 
@@ -345,6 +350,82 @@ int plain_image(const struct plain_net *x, uint8_t *out, uint64_t room, uint64_t
             }
     *p = 0;
     *length = whole;
+    return 0;
+}
+
+static int given(uint32_t base, uint32_t n)
+{
+    if (base & 255)
+        return 13;
+    return n == 0 || n > 32 ? 3 : 0;
+}
+
+static uint64_t messages_length(uint32_t n)
+{
+    return (n + ENTRIES - 1) / ENTRIES * 4 + n * 20;
+}
+
+/* hops plus 1 is the ones of the list; the origin's row has its own */
+static uint32_t metric(uint32_t list)
+{
+    uint32_t m = ones(list);
+    return m - 1 < 15 ? m : 16;
+}
+
+int plain_write_messages(const struct plain_net *x, uint32_t base, uint8_t *out, uint64_t room, uint64_t *length)
+{
+    uint32_t n = x->n;
+    *length = 0;
+    int number = given(base, n);
+    if (number)
+        return number;
+    uint64_t whole = messages_length(n);
+    if (room < whole)
+        return 6;
+    uint8_t *p = out;
+    for (uint32_t y = 0; y < n; y++) {
+        if (y % ENTRIES == 0)
+            p = put32(p, HEADER);
+        p = put32(p, FAMILY);
+        p = put32(p, base + y + 1);
+        p = put32(p, MASK);
+        p = put32(p, 0);
+        p = put32(p, metric(x->row_list[y]));
+    }
+    *length = whole;
+    return 0;
+}
+
+static int wrong(uint8_t metrics[32])
+{
+    memset(metrics, 0, 32);
+    return 14;
+}
+
+int plain_read_messages(const uint8_t *in, uint64_t size, uint32_t base, uint32_t n, uint64_t *nodes, uint8_t metrics[32])
+{
+    *nodes = 0;
+    memset(metrics, 0, 32);
+    int number = given(base, n);
+    if (number)
+        return number;
+    if (size != messages_length(n))
+        return 14;
+    const uint8_t *p = in;
+    for (uint32_t y = 0; y < n;) {
+        uint32_t end = n - y < ENTRIES ? n : y + ENTRIES;
+        if (get32(p) != HEADER)
+            return wrong(metrics);
+        p += 4;
+        for (; y < end; y++) {
+            uint32_t m = get32(p + 16);
+            if (get32(p) != FAMILY || get32(p + 4) != base + y + 1 || get32(p + 8) != MASK || get32(p + 12) != 0 || m - 1 > 15)
+                return wrong(metrics);
+            metrics[y] = m;
+            p += 20;
+        }
+    }
+    *nodes = n;
     return 0;
 }
 

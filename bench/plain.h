@@ -1,4 +1,4 @@
-/* A plain C version of the rules of document 01 and change requests One and Two, written by hand to measure the proved one against. */
+/* A plain C version of the rules of document 01 and change requests One to Three, written by hand to measure the proved one against. */
 #ifndef PLAIN_H
 #define PLAIN_H
 #include <stdint.h>
@@ -27,6 +27,10 @@ struct plain_answer plain_open(struct plain_net *x, const uint8_t *in, uint64_t 
 struct plain_answer plain_run(struct plain_net *x, const uint8_t *in, uint64_t size, uint64_t *rounds);
 /* writes nothing where it is refused; length is then 0 */
 int plain_image(const struct plain_net *x, uint8_t *out, uint64_t room, uint64_t *length);
+/* the rows as RIP messages; writes nothing where it is refused; length is then 0 */
+int plain_write_messages(const struct plain_net *x, uint32_t base, uint8_t *out, uint64_t room, uint64_t *length);
+/* messages read back: metrics by node, 0 from n on; refused, no nodes and only 0 */
+int plain_read_messages(const uint8_t *in, uint64_t size, uint32_t base, uint32_t n, uint64_t *nodes, uint8_t metrics[32]);
 /* the C call: 32 times the length of the image written, or 32 times the place plus the number */
 uint64_t plain_call(const uint8_t *run, uint64_t size, uint8_t *out, uint64_t room);
 #endif

@@ -3,13 +3,14 @@
 use mathlib.Core.Path.{_≡_}
 use mathlib.Core.List.{List, [], _∷_}
 use Prim.Native.Nat.{ℕ}
-use lib.ListN.{getD}
+use lib.ListN.{getD, length}
 use Rattle.network.specs.Faults.{maxNodes}
 use Rattle.network.specs.Network.{Row, none, root, via, Report, empty, told}
 use Rattle.network.specs.Writing.{Writing}
 use Rattle.memory.specs.Layout.{view}
 use Rattle.memory.specs.Answers.{RowAnswer, CostAnswer, HeldAnswer}
 use Rattle.records.specs.Running.{Running}
+use Rattle.response.specs.Reading.{Reading, places}
 
 -- the run o, with number, place and rounds in the words `answer` and its network in `words`
 pub record RunsTo (o : Running) (answer words : List ℕ) : Type 0 where
@@ -45,3 +46,7 @@ reportWords k (told d l) = k ∷ d ∷ l ∷ []
 
 unfoldable pub heldWords : HeldAnswer → List ℕ
 heldWords a = reportWords (a .number) (a .held)
+
+-- number, how many nodes, and the metrics in the places of 32 nodes
+unfoldable pub readWords : Reading → List ℕ
+readWords o = o .number ∷ length (o .metrics) ∷ places (o .metrics)

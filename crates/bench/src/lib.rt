@@ -5,19 +5,24 @@ use memory::HeldRead;
 use memory::Network;
 use memory::RowRead;
 ghost use mathlib.Core.Path.{_≡_};
+ghost use mathlib.Core.List.{_∷_};
+ghost use Prim.Native.Nat.{_+_};
+ghost use Rattle.network.specs.Faults.{maxNodes};
 ghost use Rattle.network.specs.Network.{freshOf};
 ghost use Rattle.network.specs.Placing.{placeRowOf, placeReportOf};
 ghost use Rattle.network.specs.Round.{roundOf, fullRoundOf};
 ghost use Rattle.network.specs.Change.{changeOf, gradeOf};
 ghost use Rattle.memory.specs.Layout.{view};
 ghost use Rattle.memory.specs.Answers.{Leaves, Starts, readRow, rowMeans, readCost, costMeans, readHeld, heldMeans};
-ghost use lib.ListN.{getD};
+ghost use lib.ListN.{length, getD};
 ghost use Rattle.network.specs.Route.{routeOf};
 ghost use Rattle.records.specs.Image.{imageOf};
 ghost use Rattle.records.specs.Opening.{openOf};
 ghost use Rattle.records.specs.Running.{runOf};
 ghost use Rattle.opening.specs.Answers.{Opens};
-ghost use Rattle.bench.specs.Handed.{RunsTo, WritesTo, rowWords, costWords, heldWords};
+ghost use Rattle.response.specs.Messages.{writeOf};
+ghost use Rattle.response.specs.Reading.{readOf};
+ghost use Rattle.bench.specs.Handed.{RunsTo, WritesTo, rowWords, costWords, heldWords, readWords};
 
 #[no_mangle]
 pub extern "C" fn bench_fresh(net: &mut Network, n: u32, origin: u32) -> u8
@@ -126,7 +131,55 @@ pub extern "C" fn bench_route(net: &Network, node: u32, out: &mut [u8], answer: 
     all[1] = written.used as u64;
 }
 
+// Message writing: number and bytes written in answer.
+#[no_mangle]
+pub extern "C" fn bench_write_messages(
+    net: &Network,
+    base: u32,
+    out: &mut [u8],
+    answer: &mut [u64; 2],
+)
+    ensures { λ _. ⌜ WritesTo (writeOf base (view (now (net .entry))) (now (out .entry))) (now (answer .exit)) (now (out .exit)) ⌝ }
+{
+    let written = messages::write_messages(net, base, out);
+    let all: &mut [u64] = answer;
+    all[0] = written.number as u64;
+    all[1] = written.used as u64;
+}
+
 // ---- reading
+
+// The words of what reading messages answers.
+const READ_WORDS: usize = response::NODES + 2;
+
+fn put_read(number: u8, nodes: u32, metrics: &[u8], out: &mut [u64])
+    requires { ⌜ length (now metrics) ≡ maxNodes ⌝ }
+    requires { ⌜ length (now out) ≡ maxNodes + 2 ⌝ }
+    ensures { λ _. ⌜ now (out .exit) ≡ (number ∷ nodes ∷ now (metrics .entry)) ⌝ }
+{
+    out[0] = number as u64;
+    out[1] = nodes as u64;
+    let mut i: usize = 0;
+    while i < response::NODES {
+        out[i + 2] = metrics[i] as u64;
+        i = i + 1;
+    }
+}
+
+// Message reading: number, nodes and the metrics of 32 nodes in answer, 0 where there are fewer.
+#[no_mangle]
+pub extern "C" fn bench_read_messages(
+    bytes: &[u8],
+    base: u32,
+    n: u32,
+    answer: &mut [u64; READ_WORDS],
+)
+    ensures { λ _. ⌜ now (answer .exit) ≡ readWords (readOf base n (now (bytes .entry))) ⌝ }
+{
+    let found = messages::read_messages(bytes, base, n);
+    let metrics = found.metrics;
+    put_read(found.number, found.nodes, &metrics, answer);
+}
 
 // Stands for a predecessor where there is none.
 const NO_NODE: u64 = network::MAX_NODES as u64;

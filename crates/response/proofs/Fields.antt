@@ -55,6 +55,10 @@ metric-right (via d p l) = hops-right (hops l)
 
 -- ---- numbers in their places
 
+-- two numbers of four bytes as one of eight say both
+pub double-says : (h l j k : ℕ) → l < 2 ^ 32 → k < 2 ^ 32 → h * 4294967296 + l ≡ j * 4294967296 + k → (h ≡ j) × (l ≡ k)
+double-says h l j k p q e = (omega arith, omega arith)
+
 same : (v w : ℕ) → differs v w ≡ false → v ≡ w
 same v w e = eqb-true v w (not-false _ e)
 
