@@ -25,12 +25,16 @@ extern void bench_read_messages(const uint8_t *in, uint64_t size, uint32_t base,
 #define LONG_TURNS 27
 #define ROUNDS 1000000
 #define SETS 16
+/* messages are written so far into a page that no byte of them has the place in its page of a word of the rows that are read: a read waits for such a
+   store, on either side, and by chance */
+#define APART 1024
 #define BASE 0x0a200700u
 #define MAX_MESSAGES 648
 #define READ_WORDS (2 + NODES)
 
-static uint32_t words[WORDS];
-static struct plain_net plain;
+/* at the start of a page each: see APART */
+static _Alignas(4096) uint32_t words[WORDS];
+static _Alignas(4096) struct plain_net plain;
 static uint32_t seed = 1;
 static int bad;
 
@@ -94,7 +98,8 @@ static void held(int right, const char *what)
 
 /* ---- networks: both sides write the same image */
 
-static uint8_t proved_out[GERQALLI_MAX_IMAGE], plain_out[GERQALLI_MAX_IMAGE];
+static _Alignas(4096) uint8_t proved_out[GERQALLI_MAX_IMAGE];
+static _Alignas(4096) uint8_t plain_out[GERQALLI_MAX_IMAGE];
 static uint64_t proved_answer[3], plain_answer[3];
 
 static void proved_write(void) { bench_image(words, proved_out, sizeof proved_out, proved_answer); }
@@ -330,8 +335,8 @@ static void damaged_images(void)
 static uint32_t base, nodes;
 static uint64_t room, proved_read[READ_WORDS], plain_read[READ_WORDS];
 
-static void proved_messages(void) { bench_write_messages(words, base, proved_out, room, proved_answer); }
-static void plain_messages(void) { plain_answer[0] = (uint64_t)plain_write_messages(&plain, base, plain_out, room, &plain_answer[1]); }
+static void proved_messages(void) { bench_write_messages(words, base, proved_out + APART, room, proved_answer); }
+static void plain_messages(void) { plain_answer[0] = (uint64_t)plain_write_messages(&plain, base, plain_out + APART, room, &plain_answer[1]); }
 static void proved_metrics(void) { bench_read_messages(file, size, base, nodes, proved_read); }
 
 static void plain_metrics(void)
