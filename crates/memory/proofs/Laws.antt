@@ -5,16 +5,16 @@ use mathlib.Core.Path.{_≡_, refl, sym, ap, _∙_}
 use mathlib.Core.Bool.{Bool, true, false, cond}
 use mathlib.Core.Logic.{_≢_}
 use mathlib.Core.List.{List}
-use Prim.Native.Nat.{ℕ, _<_, _≤_}
+use Prim.Native.Nat.{ℕ, _+_, _<_, _≤_, min}
 use native.Mathlib.Omega.{arith}
-use borrow.Author.Tests.{lt-ltb, lt-leb}
+use borrow.Author.Tests.{eq-eqb, ne-eqb, lt-ltb, lt-leb}
 use Rattle.ancestors.specs.Ancestors.{own, hops}
 use Rattle.ancestors.proofs.Cases.{never, eqb-same}
 use Rattle.network.specs.Faults.{maxNodes, nodeFault, pairFault}
 use Rattle.network.specs.Network.{Row, none, root, via, Report, empty, told, Net, outcome}
 use Rattle.network.proofs.FaultLaws.{node-free}
 use Rattle.network.proofs.Effects.{outcome-number, refused-net, accepted-net}
-use Rattle.memory.specs.Layout.{cell, nodeRow, netOf, frameIn, look, view, wide, arcCosts, heldLabels, heldLists}
+use Rattle.memory.specs.Layout.{word, cell, rowOf, nodeRow, netOf, frameIn, look, view, wide, listWord, arcCosts, heldLabels, heldLists, rowLabels, rowPredecessors, rowLists}
 use Rattle.memory.specs.Answers.{Leaves, Starts, RowAnswer, rowHops, readRow, rowMeans, CostAnswer, readCost, costMeans, HeldAnswer, readHeld, heldMeans}
 use Rattle.memory.specs.declared.RowRead.{RowRead}
 use Rattle.memory.specs.declared.RowRead.the-variants as R
@@ -31,6 +31,24 @@ few xs = omega arith
 pub read-origin : (xs : List ℕ) (y : ℕ) → y ≡ view xs .origin → view xs .row y ≡ root (own y)
 unfolding view netOf frameIn nodeRow
 read-origin xs y o = rw (← o, eqb-same y)
+
+-- a relay's row by the word of its list: 0 is no route, and else the row has that list
+pub relay-none : (xs : List ℕ) (y : ℕ) → y < view xs .nodes → y ≢ view xs .origin → listWord xs y ≡ 0 → view xs .row y ≡ none
+unfolding listWord view netOf frameIn nodeRow rowOf word
+relay-none xs y h o e =
+    let small : y < maxNodes = omega (arith, few xs) in
+    rw (ne-eqb y (look xs 1) o, lt-ltb y (min (look xs 0) maxNodes) h, eq-eqb (look xs (rowLists + y)) 0 (rw (lt-ltb y maxNodes small) at e))
+
+pub relay-list : (xs : List ℕ) (y : ℕ) → y < view xs .nodes → y ≢ view xs .origin → listWord xs y ≢ 0
+    → (d : ℕ) × (p : ℕ) × (view xs .row y ≡ via d p (listWord xs y))
+unfolding listWord view netOf frameIn nodeRow rowOf word
+relay-list xs y h o e =
+    let small : y < maxNodes = omega (arith, few xs) in
+    let some : look xs (rowLists + y) ≢ 0 = rw (lt-ltb y maxNodes small) at e in (
+      look xs (rowLabels + y),
+      look xs (rowPredecessors + y),
+      rw (ne-eqb y (look xs 1) o, lt-ltb y (min (look xs 0) maxNodes) h, ne-eqb (look xs (rowLists + y)) 0 some, lt-ltb y maxNodes small),
+    )
 
 -- ---- an answer m: refused as 3 for a fault, and else accepted
 

@@ -80,3 +80,7 @@ view xs = netOf (frameIn (look xs)) (look xs)
 -- the network of 32 nodes that words give, whatever they say of n
 unfoldable pub wide : List ℕ → Net
 wide xs = netOf (record { nodes = maxNodes; origin = look xs 1 }) (look xs)
+
+-- the word of the list of y's row, for 32 nodes
+unfoldable pub listWord : List ℕ → ℕ → ℕ
+listWord xs y = word maxNodes (look xs) rowLists y

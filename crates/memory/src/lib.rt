@@ -11,7 +11,7 @@ ghost use lib.Dec.{eqb};
 ghost use Rattle.network.specs.Network.{freshNet, freshOf};
 ghost use Rattle.network.specs.Placing.{placeRowNumber, placeRowOf, placeReportNumber, placeReportOf};
 ghost use Rattle.network.specs.Change.{changed, changeOf, gradeOf};
-ghost use Rattle.memory.specs.Layout.{wordCount, view, wide};
+ghost use Rattle.memory.specs.Layout.{wordCount, view, wide, listWord};
 ghost use Rattle.memory.specs.Inner.{Node, Blank};
 ghost use Rattle.memory.specs.Answers.{Leaves, Starts, readRow, rowMeans, readCost, costMeans, readHeld, heldMeans};
 
@@ -214,6 +214,17 @@ pub fn row(net: &Network, node: u32) -> RowRead
         list: list,
         hops: ancestors::count_hops(list),
     }
+}
+
+// The word of a node's list, for any of 32 nodes, whatever n and the origin are; 0 for other numbers. For a relay it is the list of its row, 0 where it
+// has no route; the origin's plays no part. n is not read, so that a caller that keeps to nodes below n does not have it read for each row.
+pub fn list_word(net: &Network, node: u32) -> u32
+    ensures { λ r. ⌜ r ≡ listWord (now (net .entry)) node ⌝ }
+{
+    if network::MAX_NODES <= node {
+        return 0;
+    }
+    net[ROW_LISTS + node as usize]
 }
 
 fn cost_word(net: &[u32], sender: u32, receiver: u32) -> u32

@@ -1,22 +1,33 @@
 -- What the private functions require and give.
 -- Assumes nothing.
 use mathlib.Core.Path.{_≡_}
-use mathlib.Core.Bool.{Bool, true, not}
+use mathlib.Core.Bool.{Bool, true, not, cond}
 use mathlib.Core.List.{List}
-use Prim.Native.Nat.{ℕ, _+_, _%_}
+use Prim.Native.Nat.{ℕ, _+_, _%_, _<_}
+use lib.Dec.{eqb}
+use lib.ListN.{getD}
+use Rattle.ancestors.specs.Ancestors.{hops}
 use Rattle.network.specs.Network.{Net}
 use Rattle.network.specs.Round.{some}
 use Rattle.filling.specs.Filling.{Added}
-use Rattle.response.specs.Messages.{metric, address}
+use Rattle.response.specs.Messages.{infinity, hopsMetric, metric, address}
 use Rattle.response.specs.Reading.{entryFault, entryFrom, messageFault, messageMetrics, bufferFault, bufferMetrics}
 
 -- the base's last byte is 0
 abbrev pub Sound : ℕ → Type 0
 Sound base = base % 256 ≡ 0
 
--- the metrics of x's rows, by node
-abbrev pub rowMetric : Net → ℕ → ℕ
-rowMetric x y = metric (x .row y)
+-- the metric of a row with the list l; 0 is no route
+unfoldable pub listMetric : ℕ → ℕ
+listMetric l = cond (eqb l 0) infinity (hopsMetric (hops l))
+
+-- metrics in their places, by node
+abbrev pub by : List ℕ → ℕ → ℕ
+by metrics y = getD metrics y 0
+
+-- the metrics of x's rows are in their places
+abbrev pub RowMetrics : Net → List ℕ → Type 0
+RowMetrics x metrics = (y : ℕ) → y < x .nodes → by metrics y ≡ metric (x .row y)
 
 -- r says whether no field is wrong; if so, the metrics were stored from the place a on, which left `exit`
 pub record Stored (fault : Bool) (metrics entry exit : List ℕ) (a b : ℕ) (r : Bool) : Type 0 where

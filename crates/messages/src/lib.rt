@@ -10,11 +10,10 @@ ghost use Rattle.network.specs.Faults.{maxNodes};
 ghost use Rattle.network.specs.Writing.{Writes};
 ghost use Rattle.memory.specs.Layout.{view};
 ghost use Rattle.filling.specs.Filling.{Wrote, Added};
-ghost use Rattle.response.specs.Messages.{metric, address, entryLength, headerLength, entries, message, firstNode, entryCount, messageCount, messagesLength, rowMessages, writeOf};
+ghost use Rattle.response.specs.Messages.{address, entryLength, headerLength, entries, message, firstNode, entryCount, messageCount, messages, messagesLength, writeOf};
 ghost use Rattle.response.specs.Reading.{readOf, Reads};
-ghost use Rattle.messages.specs.Inner.{Sound, rowMetric, EntriesRead, MessageRead, BufferRead};
+ghost use Rattle.messages.specs.Inner.{Sound, listMetric, RowMetrics, by, EntriesRead, MessageRead, BufferRead};
 use memory::Network;
-use memory::RowRead;
 use network::Written;
 use response::MetricsRead;
 
@@ -32,28 +31,37 @@ fn node_address(base: u32, node: u32) -> u32
 
 // ---- writing
 
-// The metric of a node's row.
-fn node_metric(net: &Network, node: u32) -> u8
-    requires { ⌜ node < view (now net) .nodes ⌝ }
-    ensures { λ r. ⌜ r ≡ metric (view (now (net .entry)) .row node) ⌝ }
+// The metric of a row with this list; 0 is no route.
+fn list_metric(list: u32) -> u8
+    ensures { λ r. ⌜ r ≡ listMetric list ⌝ }
 {
-    let row = memory::row(net, node);
-    match row {
-        RowRead::Refused => 0,
-        RowRead::NoRoute => response::INFINITY,
-        RowRead::Origin { list: _, hops } => response::hops_metric(hops),
-        RowRead::Route {
-            label: _,
-            predecessor: _,
-            list: _,
-            hops,
-        } => response::hops_metric(hops),
+    if list == 0 {
+        return response::INFINITY;
     }
+    response::hops_metric(ancestors::count_hops(list))
+}
+
+// The metrics of n rows, in their places: of relays by their lists, and then the origin's.
+fn row_metrics(net: &Network, n: u32) -> [u8; response::NODES]
+    requires { ⌜ n ≡ view (now net) .nodes ⌝ }
+    ensures { λ r. ⌜ RowMetrics (view (now (net .entry))) r ⌝ }
+{
+    let mut metrics = [0u8; response::NODES];
+    let mut y: u32 = 0;
+    while y < n {
+        metrics[y as usize] = list_metric(memory::list_word(net, y));
+        y = y + 1;
+    }
+    let origin = memory::origin(net);
+    if origin < n {
+        metrics[origin as usize] = response::hops_metric(0);
+    }
+    metrics
 }
 
 // The entries of the nodes from `first` on, from a place of the output on; answers the place after them.
 fn put_entries(
-    net: &Network,
+    metrics: &[u8; response::NODES],
     base: u32,
     first: u32,
     count: u32,
@@ -61,19 +69,18 @@ fn put_entries(
     start: usize,
 ) -> usize
     requires { ⌜ Sound base ⌝ }
-    requires { ⌜ first + count ≤ view (now net) .nodes ⌝ }
+    requires { ⌜ first + count ≤ maxNodes ⌝ }
     requires { ⌜ start + count * entryLength ≤ length (now out) ⌝ }
-    ensures { λ r. ⌜ Added (entries base (rowMetric (view (now (net .entry)))) first count) (now (out .entry)) (now (out .exit)) start r ⌝ }
+    ensures { λ r. ⌜ Added (entries base (by (now (metrics .entry))) first count) (now (out .entry)) (now (out .exit)) start r ⌝ }
 {
     let mut at = start;
     let mut i: u32 = 0;
     while i < count {
         let node = first + i;
-        let m = node_metric(net, node);
         at = at
             + response::put_entry(
                 node_address(base, node),
-                m,
+                metrics[node as usize],
                 &mut out[at..at + response::ENTRY_LENGTH],
             );
         i = i + 1;
@@ -82,12 +89,19 @@ fn put_entries(
 }
 
 // Message k of n nodes.
-fn put_message(net: &Network, base: u32, n: u32, k: u32, out: &mut [u8], start: usize) -> usize
+fn put_message(
+    metrics: &[u8; response::NODES],
+    base: u32,
+    n: u32,
+    k: u32,
+    out: &mut [u8],
+    start: usize,
+) -> usize
     requires { ⌜ Sound base ⌝ }
-    requires { ⌜ n ≡ view (now net) .nodes ⌝ }
+    requires { ⌜ n ≤ maxNodes ⌝ }
     requires { ⌜ k < messageCount n ⌝ }
     requires { ⌜ start + (headerLength + entryCount n k * entryLength) ≤ length (now out) ⌝ }
-    ensures { λ r. ⌜ Added (message base (rowMetric (view (now (net .entry)))) (firstNode k) (entryCount n k)) (now (out .entry)) (now (out .exit)) start r ⌝ }
+    ensures { λ r. ⌜ Added (message base (by (now (metrics .entry))) (firstNode k) (entryCount n k)) (now (out .entry)) (now (out .exit)) start r ⌝ }
 {
     let at = start
         + filling::copy(
@@ -95,7 +109,7 @@ fn put_message(net: &Network, base: u32, n: u32, k: u32, out: &mut [u8], start: 
             &mut out[start..start + response::HEADER_LENGTH],
         );
     put_entries(
-        net,
+        metrics,
         base,
         k * response::MOST_ENTRIES,
         response::entry_count(n, k),
@@ -105,17 +119,17 @@ fn put_message(net: &Network, base: u32, n: u32, k: u32, out: &mut [u8], start: 
 }
 
 // All messages, where there is room for them.
-fn put_messages(net: &Network, base: u32, n: u32, out: &mut [u8]) -> usize
+fn put_messages(metrics: &[u8; response::NODES], base: u32, n: u32, out: &mut [u8]) -> usize
     requires { ⌜ Sound base ⌝ }
-    requires { ⌜ n ≡ view (now net) .nodes ⌝ }
+    requires { ⌜ n ≤ maxNodes ⌝ }
     requires { ⌜ messagesLength n ≤ length (now out) ⌝ }
-    ensures { λ r. ⌜ Wrote (rowMessages base (view (now (net .entry)))) (now (out .entry)) (now (out .exit)) r ⌝ }
+    ensures { λ r. ⌜ Wrote (messages base (by (now (metrics .entry))) n) (now (out .entry)) (now (out .exit)) r ⌝ }
 {
     let count = response::message_count(n);
     let mut at: usize = 0;
     let mut k: u32 = 0;
     while k < count {
-        at = put_message(net, base, n, k, out, at);
+        at = put_message(metrics, base, n, k, out, at);
         k = k + 1;
     }
     at
@@ -137,9 +151,10 @@ pub fn write_messages(net: &Network, base: u32, out: &mut [u8]) -> Written
     if out.len() < response::messages_length(n) {
         return Written { number: 6, used: 0 };
     }
+    let metrics = row_metrics(net, n);
     Written {
         number: 0,
-        used: put_messages(net, base, n, out),
+        used: put_messages(&metrics, base, n, out),
     }
 }
 

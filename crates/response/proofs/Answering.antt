@@ -17,9 +17,9 @@ use Rattle.network.specs.Network.{Net}
 use Rattle.network.specs.Writing.{writing, Writes}
 use Rattle.network.proofs.Effects.{writing-refused, writing-accepted}
 use Rattle.filling.specs.Filling.{Wrote, Added}
-use Rattle.response.specs.Messages.{messagesLength, baseFault, countFault, givenThen, rowMessages, writeNumber, writeOf}
+use Rattle.response.specs.Messages.{metric, messages, messagesLength, baseFault, countFault, givenThen, rowMessages, writeNumber, writeOf}
 use Rattle.response.specs.Reading.{bufferFault, bufferMetrics, Reading, readNumber, reading, readOf, places}
-use Rattle.response.proofs.Sizes.{messages-size}
+use Rattle.response.proofs.Sizes.{messages-size, messages-same}
 
 -- ---- what is given
 
@@ -153,6 +153,12 @@ module _ (base : ℕ) (x : Net) (out : List ℕ) where
     write-fits h w =
         rw (number-fits h, writing-accepted (rowMessages base x) out)
         (record { number = refl; used = w .used; output = w .left ∙ ap (λ (k : ℕ). rowMessages base x ++ drop k out) (w .used) })
+
+-- the messages of a network are those of metrics that agree with its rows'
+pub row-messages : (base : ℕ) (x : Net) (n : ℕ) (f : ℕ → ℕ) → n ≡ x .nodes → ((y : ℕ) → y < x .nodes → f y ≡ metric (x .row y))
+    → rowMessages base x ≡ messages base f n
+unfolding rowMessages
+row-messages base x n f e h = rw e (messages-same base (λ y. metric (x .row y)) f (x .nodes) (λ y p. sym (h y p)))
 
 -- ---- reading
 

@@ -8,7 +8,7 @@ use lib.ListN.{length, length-append}
 use Rattle.network.specs.Faults.{maxNodes}
 use Rattle.records.specs.Numbers.{be8, be16, be32}
 use Rattle.records.specs.Image.{each}
-use Rattle.records.proofs.Each.{each-zero, each-last, each-next, each-split}
+use Rattle.records.proofs.Each.{each-same, each-zero, each-last, each-next, each-split}
 use Rattle.response.specs.Messages.{address, entry, entryLength, header, headerLength, entries, message, messageCount, firstNode, entryCount, messages, messagesLength, maxMessages}
 use Rattle.response.specs.Reading.{fullLength}
 use Rattle.response.proofs.Pieces.{each-size}
@@ -108,6 +108,15 @@ module _ (n : ℕ) where
   pub message-room : (k : ℕ) → k < messageCount n → (k * headerLength + nodesBefore n k * entryLength) + (headerLength + entryCount n k * entryLength) ≤ messagesLength n
   unfolding messagesLength
   message-room k h = omega (arith, before-next k, before-most (k + 1))
+
+-- metrics that agree on the nodes give the same messages
+pub messages-same : (base : ℕ) (f g : ℕ → ℕ) (n : ℕ) → ((y : ℕ) → y < n → f y ≡ g y) → messages base f n ≡ messages base g n
+unfolding messages message entries
+messages-same base f g n h =
+    each-same (λ k. message base f (firstNode k) (entryCount n k)) (λ k. message base g (firstNode k) (entryCount n k)) 0 (messageCount n)
+    (λ k p q. ap (λ (l : List ℕ). header ++ l)
+    (each-same (λ i. entry (address base i) (f i)) (λ i. entry (address base i) (g i)) (firstNode k) (entryCount n k)
+    (λ i r s. ap (entry (address base i)) (h i (omega (arith, entry-count-within n k (omega arith)))))))
 
 -- ---- the most
 

@@ -7,14 +7,12 @@ use mathlib.Core.List.{[], _++_}
 use Prim.Native.Nat.{_+_, _*_, _-_}
 use lib.ListN.{take, drop}
 use denote.Ref.{now}
-use Rattle.memory.specs.Layout.{view}
-use Rattle.memory.proofs.Laws.{few}
 use Rattle.records.specs.Numbers.{be8, be16}
 use Rattle.filling.specs.Filling.{Added}
 use Rattle.filling.proofs.Parts.{added-none, added-as, added-on, added-fits, added-part}
 use Rattle.filling.proofs.Copying.{copied-part}
 use Rattle.response.specs.Messages.{header, headerLength, entryLength, entries, message, messageCount, firstNode}
-use Rattle.messages.specs.Inner.{rowMetric}
+use Rattle.messages.specs.Inner.{by}
 use Rattle.response.proofs.Sizes.{header-size, entry-count-within}
 use Rattle.messages.proofs.put_message.Statement.{statement}
 use Rattle.messages.proofs.put_message.Tie as tie
@@ -40,7 +38,7 @@ mul-put-entries : tie.Need-mul-put-entries
 unfolding messageCount
 mul-put-entries c =
     let s = c .before .before .before .before .before .before in
-    omega (arith, few (now (s .args .net)), s .pre)
+    omega (arith, s .pre)
 
 put-entries-requires : tie.Need-put-entries-requires
 put-entries-requires c κs =
@@ -62,7 +60,7 @@ returns c =
     let d = c .before .before .before .before .before .before .before in
     let a = d .before .before .before .before .args in
     added-on (headed d)
-    (added-as (ap (entries (a .base) (rowMetric (view (now (a .net)))) (firstNode (a .k))) (sym (count .ensures))) (put .ensures))
+    (added-as (ap (entries (a .base) (by (now (a .metrics))) (firstNode (a .k))) (sym (count .ensures))) (put .ensures))
 
 pub put-message-spec : {M : Type 1} → statement M
 put-message-spec =

@@ -6,23 +6,22 @@ use Prim.Native.Nat.{ℕ, _-_, _≤_}
 use mathlib.Core.Path.{_≡_, refl, subst}
 use lib.ListN.{length}
 use denote.Ref.{now}
-use Rattle.memory.specs.Layout.{view}
 use Rattle.records.specs.Image.{each}
 use Rattle.records.proofs.Each.{each-zero, each-next}
 use Rattle.filling.specs.Filling.{Wrote, Added}
 use Rattle.filling.proofs.Parts.{added-none, added-as, added-on, added-front}
-use Rattle.response.specs.Messages.{message, firstNode, entryCount, messageCount, messages, rowMessages}
-use Rattle.messages.specs.Inner.{rowMetric}
+use Rattle.response.specs.Messages.{message, firstNode, entryCount, messageCount, messages}
+use Rattle.messages.specs.Inner.{by}
 use Rattle.response.proofs.Sizes.{before-size, message-room}
 use Rattle.messages.proofs.put_messages.Statement.{statement}
 use Rattle.messages.proofs.put_messages.Tie as tie
 
 abbrev Inv-loop : tie.InvT-loop
-Inv-loop net base n out₀ count at₀ k₀ out at k =
-    Added (each (λ j. message base (rowMetric (view net)) (firstNode j) (entryCount n j)) 0 k) out₀ out 0 at × (k ≤ count) × (length out ≡ length out₀)
+Inv-loop metrics base n out₀ count at₀ k₀ out at k =
+    Added (each (λ j. message base (by metrics) (firstNode j) (entryCount n j)) 0 k) out₀ out 0 at × (k ≤ count) × (length out ≡ length out₀)
 
 abbrev μ-loop : tie.MeasureT-loop
-μ-loop net base n out₀ count at₀ k₀ out at k = count - k
+μ-loop metrics base n out₀ count at₀ k₀ out at k = count - k
 
 loop-holds : tie.Need-loop-holds Inv-loop μ-loop
 loop-holds c = (added-none _ 0 (each-zero _ 0) (omega arith), omega arith, refl)
@@ -38,7 +37,7 @@ put-message-requires c κs =
         s .pre .1 .0,
         (
           omega (arith, count),
-          omega (arith, count, l .inv, l .inv .0 .place, before-size (a .n) (a .base) (rowMetric (view (now (a .net)))) (l .k), message-room (a .n) (l .k) (omega (arith, count)), s .pre .1 .1),
+          omega (arith, count, l .inv, l .inv .0 .place, before-size (a .n) (a .base) (by (now (a .metrics))) (l .k), message-room (a .n) (l .k) (omega (arith, count)), s .pre .1 .1),
         ),
       ),
     )
@@ -53,15 +52,12 @@ same-length : tie.Need-same-length Inv-loop μ-loop
 same-length c = c .before .loop .inv .2
 
 returns : tie.Need-returns Inv-loop μ-loop
-unfolding rowMessages messages
+unfolding messages
 returns c =
     let l = c .before .loop in
-    let s = c .before .before .before .before in
-    let a = s .args in
-    let f = rowMetric (view (now (a .net))) in
+    let a = c .before .before .before .before .args in
     let e : l .k ≡ messageCount (a .n) = omega (arith, c .before .before .message-count .ensures) in
-    subst (λ (n : ℕ). Wrote (each (λ j. message (a .base) f (firstNode j) (entryCount n j)) 0 (messageCount n)) (now (a .out)) (l .out) (l .at)) (s .pre .1 .0)
-    (subst (λ (k : ℕ). Wrote (each (λ j. message (a .base) f (firstNode j) (entryCount (a .n) j)) 0 k) (now (a .out)) (l .out) (l .at)) e (added-front (l .inv .0)))
+    subst (λ (k : ℕ). Wrote (each (λ j. message (a .base) (by (now (a .metrics))) (firstNode j) (entryCount (a .n) j)) 0 k) (now (a .out)) (l .out) (l .at)) e (added-front (l .inv .0))
 
 pub put-messages-spec : {M : Type 1} → statement M
 put-messages-spec =

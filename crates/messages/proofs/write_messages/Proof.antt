@@ -6,8 +6,11 @@ use mathlib.Core.Path.{sym, ap, _∙_}
 use Prim.Native.Nat.{ℕ}
 use denote.Ref.{now}
 use Rattle.memory.specs.Layout.{view}
+use Rattle.memory.proofs.Laws.{few}
+use Rattle.filling.proofs.Parts.{wrote-as}
 use Rattle.response.specs.Messages.{messagesLength, givenThen}
-use Rattle.response.proofs.Answering.{base-says, given-says, write-given, write-short, write-fits}
+use Rattle.response.proofs.Answering.{base-says, given-says, write-given, write-short, write-fits, row-messages}
+use Rattle.messages.specs.Inner.{by}
 use Rattle.messages.proofs.write_messages.Statement.{statement}
 use Rattle.messages.proofs.write_messages.Tie as tie
 
@@ -30,24 +33,28 @@ returns-2 c =
 
 put-messages-requires : tie.Need-put-messages-requires
 put-messages-requires c κs =
-    let test = c .before .before .before in
+    let room = c .before .before .before in
+    let test = room .before .before in
     let given = test .before .given-number in
     let n = test .before .before .nodes in
     let s = test .before .before .before .before in
     let base = base-says (s .args .base) (given-says (s .args .base) (n .result) 0 (sym (given .ensures) ∙ test .if1 .left) .0) in
-    (omega (arith, base, s .fits .base), (n .ensures, omega (arith, c .before .if2 .left, c .before .before .messages-length .ensures)))
+    (omega (arith, base, s .fits .base), (omega (arith, n .ensures, few (now (s .args .net))), omega (arith, room .if2 .left, room .before .messages-length .ensures)))
 
 returns-3 : tie.Need-returns-3
 returns-3 c =
     let put = c .before .before in
-    let room = put .before .before in
+    let metrics = put .before .before .before in
+    let room = metrics .before in
     let test = room .before .before in
     let given = test .before .given-number in
     let n = test .before .before .nodes in
     let a = test .before .before .before .before .args in
-    write-fits (a .base) (view (now (a .net))) (now (a .out))
+    let x = view (now (a .net)) in
+    write-fits (a .base) x (now (a .out))
     (sym (given .ensures ∙ ap (λ (k : ℕ). givenThen (a .base) k 0) (n .ensures)) ∙ test .if1 .left)
-    (omega (arith, room .if2 .left, room .before .messages-length .ensures, ap messagesLength (n .ensures))) (put .put-messages .ensures)
+    (omega (arith, room .if2 .left, room .before .messages-length .ensures, ap messagesLength (n .ensures)))
+    (wrote-as (row-messages (a .base) x (n .result) (by (metrics .row-metrics .result)) (n .ensures) (metrics .row-metrics .ensures)) (put .put-messages .ensures))
 
 pub write-messages-spec : {M : Type 1} → statement M
 write-messages-spec =
@@ -58,6 +65,7 @@ write-messages-spec =
     returns
     (λ c κs. search needs)
     returns-2
+    (λ c κs. c .before .before .before .before .nodes .ensures)
     put-messages-requires
     (λ c. search needs)
     returns-3)
