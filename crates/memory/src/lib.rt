@@ -2,7 +2,7 @@
 //
 // Contracts go through `view`, the network that the words give (specs/Layout.antt), and hold for any words. A refused call leaves every word as it
 // stood, but for `make_fresh`: refused or not, it makes the words give a fresh network, and says nothing of words that play no part in it. Of
-// the public functions only `pair_cost` and `pair_held` read such words. No public function has a precondition.
+// the public functions only `pair_cost`, `pair_held` and `list_word` read such words. No public function has a precondition.
 ghost use mathlib.Core.Path.{_≡_};
 ghost use mathlib.Core.Bool.{_||_, cond};
 ghost use Prim.Native.Nat.{_<_, _≤_};
