@@ -52,6 +52,7 @@ entryLength = 20
 unfoldable pub header : List ℕ
 header = be8 2 ++ (be8 2 ++ be16 0)
 
+-- how many bytes that is
 abbrev pub headerLength : ℕ
 headerLength = 4
 
