@@ -82,16 +82,6 @@ pub fn usage_said(out: &mut [u8; MAX_SAID]) -> Said
     )
 }
 
-// Whether a base's last byte isn't 0: then what is written does not go by the input.
-pub fn base_refused(base: u32) -> bool
-    ensures { λ r. ⌜ r ≡ baseFault base ⌝ }
-{
-    if base % 256 != 0 {
-        return true;
-    }
-    false
-}
-
 // Of a run.
 fn run_said(base: u32, input: &[u8], out: &mut [u8]) -> Said
     requires { ⌜ baseFault base ≡ false ⌝ }
@@ -112,7 +102,7 @@ pub fn write_said(base: u32, input: &[u8], out: &mut [u8; MAX_SAID]) -> Said
     ensures { λ r. ⌜ Says (writeText base (now (input .entry))) r (now (out .entry)) (now (out .exit)) ⌝ }
 {
     let all: &mut [u8] = out;
-    if base_refused(base) {
+    if response::base_refused(base) {
         return said_of(true, put_refused(13, all));
     }
     if text::MAX_INPUT < input.len() {

@@ -1,28 +1,20 @@
 -- Bytes copied, one by one and as a whole.
 -- Assumes nothing.
 use mathlib.Core.Path.{_≡_, sym, ap, _∙_}
-use mathlib.Core.List.{List, [], _∷_, _++_, append-assoc}
-use Prim.Native.Nat.{ℕ, suc, _+_, _-_, _<_, _≤_}
+use mathlib.Core.List.{List, []}
+use Prim.Native.Nat.{ℕ, _+_, _-_, _<_, _≤_}
 use native.Mathlib.Omega.{arith}
 use native.Mathlib.Numerals.{add-one}
 use lib.ListN.{length, take, drop, set, getD}
-use lib.Seq.{length-take-le, take-suc, drop-cons, set-at}
+use lib.Seq.{take-suc}
 use borrow.Author.Tests.{lt-ltb, le-ltb}
 use Rattle.filling.specs.Filling.{Wrote, copied}
-use Rattle.filling.proofs.Parts.{wrote-as, part-size}
+use Rattle.filling.proofs.Parts.{wrote-as, front-added, added-byte, added-front, part-size}
 
 -- one byte more of the bytes b is copied
 pub wrote-next : (b e x : List ℕ) (i : ℕ) → Wrote (take i b) e x i → i < length b → i < length e → Wrote (take (i + 1) b) e (set x i (getD b i 0)) (i + 1)
 wrote-next b e x i h p q =
-    let n : length (take i b) ≡ i = length-take-le i b (omega arith) in
-    let m = length-take-le (suc i) b p in
-    rw (add-one i)
-    (record {
-      used = sym m;
-      left =
-          ap (λ (l : List ℕ). set l i (getD b i 0)) (h .left ∙ ap (λ (l : List ℕ). take i b ++ l) (drop-cons e i 0 q)) ∙
-          set-at (take i b) (getD e i 0) (drop (suc i) e) (getD b i 0) i n ∙ rw (take-suc b i 0 p) (sym (append-assoc (take i b) (getD b i 0 ∷ []) (drop (suc i) e)));
-    })
+    wrote-as (ap (λ (k : ℕ). take k b) (add-one i) ∙ take-suc b i 0 p) (added-front (added-byte (getD b i 0) (front-added h) q))
 
 module _ (b e : List ℕ) where
   -- in a shorter output

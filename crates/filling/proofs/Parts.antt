@@ -177,3 +177,6 @@ module _ (e : List ℕ) (a : ℕ) (within : a ≤ length e) where
 -- from the first place on
 pub added-front : {w e x : List ℕ} {b : ℕ} → Added w e x 0 b → Wrote w e x b
 added-front h = record { used = h .place ∙ zero-add _; left = h .left }
+
+pub front-added : {w e x : List ℕ} {b : ℕ} → Wrote w e x b → Added w e x 0 b
+front-added h = record { within = omega arith; place = h .used ∙ sym (zero-add _); left = h .left }

@@ -6,7 +6,7 @@ ghost use mathlib.Core.Path.{_≡_};
 ghost use mathlib.Core.Bool.{cond};
 ghost use Prim.Native.Nat.{_+_, _*_};
 ghost use Rattle.filling.specs.Filling.{Wrote, copied};
-ghost use Rattle.response.specs.Messages.{hopsMetric, entry, entryCount, messageCount, messagesLength, givenThen};
+ghost use Rattle.response.specs.Messages.{hopsMetric, entry, entryCount, messageCount, messagesLength, baseFault, givenThen};
 ghost use Rattle.response.specs.Reading.{entryFault, entryMetric};
 
 // The most nodes.
@@ -45,11 +45,21 @@ pub struct MetricsRead {
 
 // ---- base and n
 
+// Whether a base's last byte isn't 0.
+pub fn base_refused(base: u32) -> bool
+    ensures { λ r. ⌜ r ≡ baseFault base ⌝ }
+{
+    if base % 256 != 0 {
+        return true;
+    }
+    false
+}
+
 // 13 for a base whose last byte isn't 0, then 3 for n of 0 or above 32, else 0.
 pub fn given_number(base: u32, n: u32) -> u8
     ensures { λ k. ⌜ k ≡ givenThen base n 0 ⌝ }
 {
-    if base % 256 != 0 {
+    if base_refused(base) {
         return 13;
     }
     if n == 0 {

@@ -73,7 +73,7 @@ fn say_usage() {
 fn read_run(base: u32, room: &mut [u8]) -> Input
     ensures { λ r. ⌜ r .bytes ≤ length (now (room .entry)) ⌝ }
 {
-    if command::base_refused(base) {
+    if response::base_refused(base) {
         return Input {
             failed: false,
             bytes: 0,

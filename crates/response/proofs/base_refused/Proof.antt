@@ -1,9 +1,9 @@
--- `command::base_refused` meets its contract.
+-- `response::base_refused` meets its contract.
 -- Assumes nothing.
 use mathlib.Core.Path.{sym}
 use Rattle.response.proofs.Answering.{base-bad, base-free}
-use Rattle.command.proofs.base_refused.Statement.{statement}
-use Rattle.command.proofs.base_refused.Tie as tie
+use Rattle.response.proofs.base_refused.Statement.{statement}
+use Rattle.response.proofs.base_refused.Tie as tie
 
 returns : tie.Need-returns
 returns c = sym (base-bad (c .before .args .base) (c .if1 .taken))
