@@ -20,10 +20,10 @@ or-low : (x y : ℕ) → bitOr x y % 2 ≡ max (x % 2) (y % 2)
 or-low x y = omega (arith, or-step x y)
 
 -- bit j of 2 ^ i
-one-same : (i : ℕ) → 2 ^ i / 2 ^ i % 2 ≡ 1
+pub one-same : (i : ℕ) → 2 ^ i / 2 ^ i % 2 ≡ 1
 one-same i = rw (div-self, pow-pos i)
 
-one-other : (i j : ℕ) → i ≢ j → 2 ^ i / 2 ^ j % 2 ≡ 0
+pub one-other : (i j : ℕ) → i ≢ j → 2 ^ i / 2 ^ j % 2 ≡ 0
 one-other i j h = go (le-or-lt i j)
   where
     low : i < j → 2 ^ i / 2 ^ j % 2 ≡ 0
@@ -106,7 +106,7 @@ bit-beyond k (suc j) l a b = go (λ c. bit-beyond k j l a c) (le-or-lt (2 ^ (k +
 
 -- ---- the ones of a list are its nodes, counted
 
-clear-bit : (l y : ℕ) → has l y ≡ false → l / 2 ^ y % 2 ≡ 0
+pub clear-bit : (l y : ℕ) → has l y ≡ false → l / 2 ^ y % 2 ≡ 0
 unfolding has
 clear-bit l y h = go (eq-or-ne (l / 2 ^ y % 2) 1)
   where
@@ -123,7 +123,7 @@ even-ones x h =
     omega (arith, ones-step (x + 1), ones-step x, ap ones e)
 
 -- a new node adds its bit
-put-new : (l y : ℕ) → has l y ≡ false → put l y ≡ (l / 2 ^ y + 1) * 2 ^ y + l % 2 ^ y
+pub put-new : (l y : ℕ) → has l y ≡ false → put l y ≡ (l / 2 ^ y + 1) * 2 ^ y + l % 2 ^ y
 unfolding put
 put-new l y h =
     let one : 2 ^ y ≡ 1 * 2 ^ y + 0 = omega arith in

@@ -2,4 +2,5 @@
 pub mod Cases
 pub mod Counting
 pub mod Laws
+pub mod Sets
 mod Words

@@ -1,9 +1,9 @@
 -- Ancestor lists of document 01, "The network": 32 bits, of which bit i has the value 2 ^ i and stands for node i.
 -- Assumes nothing.
-use mathlib.Core.Bool.{Bool, true, false}
+use mathlib.Core.Bool.{Bool, true, false, cond}
 use Prim.Native.Nat.{ℕ, zero, suc, _+_, _-_, _/_, _%_, _^_}
 use lib.Dec.{eqb}
-use lib.Bits.{bitOr}
+use lib.Bits.{bitAnd, bitOr, bitXor}
 use lib.Count.{ones}
 
 -- node i is in the list l
@@ -17,6 +17,19 @@ put l i = bitOr l (2 ^ i)
 -- the list of node i alone: its own bit
 abbrev pub own : ℕ → ℕ
 own i = put 0 i
+
+-- the list l without node i
+unfoldable pub cut : ℕ → ℕ → ℕ
+cut l i = bitXor l (bitAnd l (2 ^ i))
+
+-- every node of the list l is in m
+unfoldable pub inside : ℕ → ℕ → Bool
+inside l m = eqb (bitAnd l m) l
+
+-- the list of the nodes below k that pass the test
+unfoldable pub those : (ℕ → Bool) → ℕ → ℕ
+those f zero = 0
+those f (suc k) = cond (f k) (put (those f k) k) (those f k)
 
 -- hops are the number of ones in the list less one
 unfoldable pub hops : ℕ → ℕ

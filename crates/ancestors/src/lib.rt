@@ -1,10 +1,12 @@
-// Ancestor lists as 32-bit words: whether a node is listed, a list with a node more, how many nodes it has, and its hops.
+// Ancestor lists and other sets of nodes as 32-bit words: whether a node is listed, a list with a node more or less, the nodes that two lists share,
+// those below a number, how many nodes it has, and its hops.
 //
 // No function has a precondition: a node above 31 is in no list and joins none.
 ghost use mathlib.Core.Path.{_≡_};
 ghost use mathlib.Core.Bool.{cond};
+ghost use Prim.Native.Nat.{_%_, _^_};
 ghost use lib.Dec.{ltb};
-ghost use Rattle.ancestors.specs.Ancestors.{has, put, hops, count};
+ghost use Rattle.ancestors.specs.Ancestors.{has, put, cut, inside, hops, count};
 
 // Whether the node is in the list.
 pub fn listed(list: u32, node: u32) -> bool
@@ -24,6 +26,33 @@ pub fn joined(list: u32, node: u32) -> u32
         return list;
     }
     list | (1u32 << node)
+}
+
+// The list without the node.
+pub fn left_out(list: u32, node: u32) -> u32
+    ensures { λ r. ⌜ r ≡ cond (ltb node 32) (cut list node) list ⌝ }
+{
+    if 32 <= node {
+        return list;
+    }
+    list ^ (list & (1u32 << node))
+}
+
+// The nodes of the list below k.
+pub fn below(list: u32, k: u32) -> u32
+    ensures { λ r. ⌜ r ≡ list % 2 ^ k ⌝ }
+{
+    if 32 <= k {
+        return list;
+    }
+    list & ((1u32 << k) - 1)
+}
+
+// Whether every node of the list is in the other.
+pub fn covered(list: u32, other: u32) -> bool
+    ensures { λ r. ⌜ r ≡ inside list other ⌝ }
+{
+    list & other == list
 }
 
 // The number of nodes in the list.
