@@ -11,9 +11,10 @@ pub mod Distinct
 -- what each call does, and that it keeps a network within limits
 pub mod Effects
 pub mod Keeping
--- a round: marks, offers, the choice, and its limits
+-- a round: marks, words of arcs, offers, the choice, and its limits
 pub mod Reports
 pub mod Marking
+pub mod Arcs
 pub mod Offers
 pub mod Choosing
 pub mod RoundLimits

@@ -2,6 +2,7 @@ pub mod Faults
 pub mod Form
 pub mod Network
 pub mod Round
+pub mod Arcs
 pub mod Change
 pub mod Placing
 pub mod Writing

@@ -1,10 +1,12 @@
--- What the leaf functions get and answer: reports and costs as slices of words, by sender, an offer below a limit, and the enum of a choice.
+-- What the leaf functions get and answer: the arcs of a receiver as a word, reports and costs as slices of words, by sender, an offer below a limit,
+-- and the enum of a choice.
 -- Assumes nothing.
 use mathlib.Core.Bool.{Bool, cond, not, _||_}
 use mathlib.Core.List.{List}
-use Prim.Native.Nat.{ℕ}
+use Prim.Native.Nat.{ℕ, _+_, _%_}
 use lib.Dec.{eqb, ltb, leb}
 use lib.ListN.{length, getD}
+use Rattle.ancestors.specs.Ancestors.{has}
 use Rattle.network.specs.Faults.{maxNodes}
 use Rattle.network.specs.Network.{Row, none, via, Report, empty, told}
 use Rattle.network.specs.Round.{offer, onesIn, choice}
@@ -17,19 +19,23 @@ use Rattle.network.specs.declared.Choice.the-variants.{Refused, NoRoute,
 unfoldable pub reportOf : ℕ → ℕ → Report
 reportOf d l = cond (eqb l 0) empty (told d l)
 
--- the reports and the costs that words give, by sender
-abbrev pub reports : List ℕ → List ℕ → ℕ → Report
-reports labels lists s = reportOf (getD labels s 0) (getD lists s 0)
+-- an arc's cost in one word: one more than its low sixteen bits, so that it is never 0
+unfoldable pub costOf : ℕ → ℕ
+costOf c = c % 65536 + 1
 
-abbrev pub costsOf : List ℕ → ℕ → ℕ
-costsOf costs s = getD costs s 0
+-- the reports and the costs that words give, by sender: empty, and no arc, where the word of arcs does not have the sender's bit
+abbrev pub reports : ℕ → List ℕ → List ℕ → ℕ → Report
+reports arcs labels lists s = cond (has arcs s) (reportOf (getD labels s 0) (getD lists s 0)) empty
+
+abbrev pub costsOf : ℕ → List ℕ → ℕ → ℕ
+costsOf arcs costs s = cond (has arcs s) (costOf (getD costs s 0)) 0
 
 -- the offers that words make to y, and the ones of their reports, by sender
-abbrev pub offersOf : List ℕ → List ℕ → List ℕ → ℕ → ℕ → Offer
-offersOf costs labels lists y s = offer y (costsOf costs s) (reports labels lists s)
+abbrev pub offersOf : ℕ → List ℕ → List ℕ → List ℕ → ℕ → ℕ → Offer
+offersOf arcs costs labels lists y s = offer y (costsOf arcs costs s) (reports arcs labels lists s)
 
-abbrev pub onesOf : List ℕ → List ℕ → ℕ → ℕ
-onesOf labels lists s = onesIn (reports labels lists s)
+abbrev pub onesOf : ℕ → List ℕ → List ℕ → ℕ → ℕ
+onesOf arcs labels lists s = onesIn (reports arcs labels lists s)
 
 -- the same ones for every sender: among equal offers the lowest-numbered sender wins
 abbrev pub alike : ℕ → ℕ
@@ -58,9 +64,9 @@ abbrev pub chosen : Row → ChoiceAnswer
 chosen w = record { number = 0; row = w }
 
 -- the choice from these words
-unfoldable pub chooseOf : List ℕ → List ℕ → List ℕ → ℕ → ChoiceAnswer
-chooseOf costs labels lists y =
-    cond (wordsFault costs labels lists y) refusedChoice (chosen (choice (length costs) (costsOf costs) (reports labels lists) y))
+unfoldable pub chooseOf : ℕ → List ℕ → List ℕ → List ℕ → ℕ → ChoiceAnswer
+chooseOf arcs costs labels lists y =
+    cond (wordsFault costs labels lists y) refusedChoice (chosen (choice (length costs) (costsOf arcs costs) (reports arcs labels lists) y))
 
 -- number and row of each case of the enum
 unfoldable pub choiceMeans : Choice → ChoiceAnswer

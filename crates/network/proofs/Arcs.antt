@@ -1,0 +1,138 @@
+-- Words of arcs and of what is in range: their bits, marks tested by one comparison of words, and a full round as a round on the arcs' words.
+-- Assumes nothing.
+use mathlib.Core.Path.{_≡_, refl, sym, ap, ap₂, subst, _∙_}
+use mathlib.Core.Bool.{Bool, true, false, cond, not, _&&_}
+use mathlib.Core.Logic.{_⊎_, inl, inr}
+use mathlib.Core.List.{List}
+use Prim.Native.Nat.{ℕ, zero, suc, _+_, _^_, _<_, _≤_}
+use native.Mathlib.Omega.{arith}
+use lib.Dec.{eqb, ltb}
+use lib.ListN.{length, getD}
+use borrow.Author.Tests.{lt-ltb, le-ltb, eq-eqb, ne-eqb}
+use Rattle.ancestors.specs.Ancestors.{has, inside, those}
+use Rattle.ancestors.proofs.Cases.{bool-cases, le-or-lt, never}
+use Rattle.ancestors.proofs.Sets.{has-those, those-below, inside-has, outside-find}
+use Rattle.network.specs.Faults.{maxNodes, pairFault}
+use Rattle.network.specs.Network.{Net, Within}
+use Rattle.network.specs.Round.{Marks, report, hear, renew, round, marked, some, strayMark, idleMark, roundNumber, roundOf, everyArc, fullRoundOf}
+use Rattle.network.specs.Arcs.{arcsTo, numbers, arcWords, senders, ArcsExact, FullRoundMarked}
+use Rattle.network.proofs.Effects.{same-reports}
+use Rattle.network.proofs.FaultLaws.{pair-says}
+use Rattle.network.proofs.Limits.{within-size}
+use Rattle.network.proofs.Marking.{some-here, some-none, some-ext, mark-says, every-arc}
+
+-- ---- bits
+
+pub arcs-exact : ArcsExact
+unfolding arcsTo
+arcs-exact x r s h = has-those (λ s. everyArc x s r) maxNodes s ∙ rw (lt-ltb s maxNodes h)
+
+pub senders-has : (n r s : ℕ) → s < maxNodes → has (senders n r) s ≡ not (pairFault n s r)
+unfolding senders
+senders-has n r s h = has-those (λ s. not (pairFault n s r)) maxNodes s ∙ rw (lt-ltb s maxNodes h)
+
+pub arcs-fit : (x : Net) (r : ℕ) → arcsTo x r < 2 ^ 32
+unfolding arcsTo
+arcs-fit x r = those-below (λ s. everyArc x s r) maxNodes
+
+-- ---- the words of every node
+
+numbers-long : (f : ℕ → ℕ) (k d : ℕ) → length (numbers f k d) ≡ d
+unfolding numbers
+numbers-long f k zero = refl
+numbers-long f k (suc d) = ap suc (numbers-long f (suc k) d)
+
+numbers-at : (f : ℕ → ℕ) (k d i : ℕ) → i < d → getD (numbers f k d) i 0 ≡ f (k + i)
+unfolding numbers
+numbers-at f k zero i h = absurd (omega arith)
+numbers-at f k (suc d) zero h = ap f (omega arith)
+numbers-at f k (suc d) (suc i) h = numbers-at f (suc k) d i (omega arith) ∙ ap f (omega arith)
+
+pub arc-words-long : (x : Net) → length (arcWords x) ≡ maxNodes
+unfolding arcWords
+arc-words-long x = numbers-long (arcsTo x) 0 maxNodes
+
+pub arc-words-at : (x : Net) (r : ℕ) → r < maxNodes → getD (arcWords x) r 0 ≡ arcsTo x r
+unfolding arcWords
+arc-words-at x r h = numbers-at (arcsTo x) 0 maxNodes r h ∙ ap (arcsTo x) (omega arith)
+
+-- ---- marks tested by one comparison
+
+-- a node of l outside of m
+outside-some : (l m : ℕ) (f : ℕ → Bool) → l < 2 ^ 32 → ((s : ℕ) → s < 32 → not (has m s) ≡ f s) → not (inside l m) ≡ some (λ s. has l s && f s) 32
+outside-some l m f fits e = go (bool-cases (inside l m))
+  where
+    apart : (i : ℕ) → i < 32 → has l i ≡ true → has m i ≡ false → (has l i && f i) ≡ true
+    apart i h a b = rw (a, ← e i h, b)
+
+    near : inside l m ≡ true → (i : ℕ) → i < 32 → (has l i ≡ true) ⊎ (has l i ≡ false) → (has l i && f i) ≡ false
+    near q i h (inl a) = rw (a, ← e i h, inside-has l m i q a)
+    near q i h (inr a) = rw a
+
+    go : (inside l m ≡ true) ⊎ (inside l m ≡ false) → not (inside l m) ≡ some (λ s. has l s && f s) 32
+    go (inl q) = rw q (sym (some-none _ 32 (λ i h. near q i h (bool-cases (has l i)))))
+    go (inr q) = let o = outside-find 32 l m fits q in rw q (sym (some-here _ 32 (o .0) (o .1) (apart (o .0) (o .1) (o .2) (o .3))))
+
+not-not : (b : Bool) → not (not b) ≡ b
+not-not true = refl
+not-not false = refl
+
+-- a mark of r out of range
+pub stray-by-word : (n r w : ℕ) → w < 2 ^ 32 → not (inside w (senders n r)) ≡ some (λ s. has w s && pairFault n s r) 32
+stray-by-word n r w fits =
+    outside-some w (senders n r) (λ s. pairFault n s r) fits (λ s h. ap not (senders-has n r s h) ∙ not-not (pairFault n s r))
+
+-- a cost is positive or 0
+some-cost : (c : ℕ) → not (ltb 0 c) ≡ eqb c 0
+some-cost zero = refl
+some-cost (suc c) = rw (lt-ltb 0 (suc c) (omega arith), ne-eqb (suc c) 0 (λ e. omega arith))
+
+-- a mark of r without an arc
+pub idle-by-word : (x : Net) (r w : ℕ) → w < 2 ^ 32 → not (inside w (arcsTo x r)) ≡ some (λ s. has w s && eqb (x .cost s r) 0) 32
+unfolding everyArc
+idle-by-word x r w fits =
+    outside-some w (arcsTo x r) (λ s. eqb (x .cost s r) 0) fits (λ s h. ap not (arcs-exact x r s h) ∙ some-cost (x .cost s r))
+
+-- ---- a full round
+
+-- rounds on the same marks
+pub hear-ext : (m m′ : Marks) (x : Net) → ((s r : ℕ) → m s r ≡ m′ s r) → hear m x ≡ hear m′ x
+unfolding hear
+hear-ext m m′ x e = same-reports x (λ s r. λ j. cond (e s r j) (report (x .row s)) (x .held s r))
+
+-- the arcs' words mark every arc, where arcs join nodes
+pub words-mark : (x : Net) → ((s r : ℕ) → everyArc x s r ≡ true → (s < maxNodes) × (r < maxNodes)) → (s r : ℕ) → marked (arcWords x) s r ≡ everyArc x s r
+unfolding marked
+words-mark x few s r = go (le-or-lt maxNodes s) (le-or-lt maxNodes r) (bool-cases (everyArc x s r))
+  where
+    go : (maxNodes ≤ s) ⊎ (s < maxNodes) → (maxNodes ≤ r) ⊎ (r < maxNodes) → (everyArc x s r ≡ true) ⊎ (everyArc x s r ≡ false)
+        → (ltb s 32 && (ltb r 32 && has (getD (arcWords x) r 0) s)) ≡ everyArc x s r
+    go (inr a) (inr b) e = rw (lt-ltb s 32 a, lt-ltb r 32 b, arc-words-at x r b) (arcs-exact x r s a)
+    go (inl a) b (inl e) = let k = few s r e in absurd (omega arith)
+    go (inl a) b (inr e) = rw (le-ltb s 32 a, e)
+    go (inr a) (inl b) (inl e) = let k = few s r e in absurd (omega arith)
+    go (inr a) (inl b) (inr e) = rw (lt-ltb s 32 a, le-ltb r 32 b, e)
+
+pub full-round-marked : FullRoundMarked
+unfolding roundOf roundNumber fullRoundOf round strayMark idleMark everyArc
+full-round-marked x w =
+    rw (eq-eqb (length (arcWords x)) 32 (arc-words-long x), no-stray, no-idle, hear-ext (marked (arcWords x)) (everyArc x) x same)
+  where
+    pair : (s r : ℕ) → everyArc x s r ≡ true → pairFault (x .nodes) s r ≡ false
+    pair s r e = w .arc-pair s r (every-arc x s r e)
+
+    same : (s r : ℕ) → marked (arcWords x) s r ≡ everyArc x s r
+    same = words-mark x (λ s r e. let p = pair-says (x .nodes) s r (pair s r e) in let k = within-size x w in (omega (arith, k), omega (arith, k)))
+
+    none : (f : ℕ → ℕ → Bool) → ((s r : ℕ) → everyArc x s r ≡ true → f s r ≡ false) → some (λ r. some (λ s. marked (arcWords x) s r && f s r) 32) 32 ≡ false
+    none f h = some-none _ 32 (λ r _. some-none _ 32 (λ s _. rw (same s r) (go s r (bool-cases (everyArc x s r)))))
+      where
+        go : (s r : ℕ) → (everyArc x s r ≡ true) ⊎ (everyArc x s r ≡ false) → (everyArc x s r && f s r) ≡ false
+        go s r (inl e) = rw (e, h s r e)
+        go s r (inr e) = rw e
+
+    no-stray : some (λ r. some (λ s. marked (arcWords x) s r && pairFault (x .nodes) s r) 32) 32 ≡ false
+    no-stray = none (pairFault (x .nodes)) pair
+
+    no-idle : some (λ r. some (λ s. marked (arcWords x) s r && eqb (x .cost s r) 0) 32) 32 ≡ false
+    no-idle = none (λ s r. eqb (x .cost s r) 0) (λ s r e. sym (some-cost (x .cost s r)) ∙ ap not e)
