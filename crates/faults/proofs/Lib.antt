@@ -1,2 +1,3 @@
--- What the leaf functions compute: bits not below n.
+-- What the leaf functions compute: bits not below n, and those of what is in range.
 mod Bits
+mod Range

@@ -1,4 +1,5 @@
-// Document 01's tests of numbers: a pair of nodes, and a row or a report of an image, by the number of its form; and the cost of a grade.
+// Document 01's tests of numbers: a pair of nodes, and a row or a report of an image, by the number of its form; what is in range for a receiver, as a
+// word; and the cost of a grade.
 //
 // The crate `network` has the definitions. No public function has a precondition.
 ghost use mathlib.Core.Path.{_≡_};
@@ -6,6 +7,7 @@ ghost use mathlib.Core.Bool.{cond};
 ghost use Prim.Native.Nat.{_^_};
 ghost use lib.Dec.{ltb, leb};
 ghost use Rattle.network.specs.Faults.{maxLabel, pairFault, listFault, rowFormNumber, reportFormNumber};
+ghost use Rattle.network.specs.Arcs.{senders};
 ghost use Rattle.network.specs.Change.{gradeCost};
 
 // The cost of each grade; grade 0 removes the arc.
@@ -39,6 +41,19 @@ pub fn pair_fault(n: u32, sender: u32, receiver: u32) -> bool
         return true;
     }
     sender == receiver
+}
+
+// A list of 32 nodes.
+const ALL: u32 = 4294967295;
+
+// What is in range for a receiver among n nodes: a bit for every node but itself, and none where it is not below n.
+pub fn senders(n: u32, receiver: u32) -> u32
+    ensures { λ r. ⌜ r ≡ senders n receiver ⌝ }
+{
+    if n <= receiver {
+        return 0;
+    }
+    ancestors::left_out(ancestors::below(ALL, n), receiver)
 }
 
 // Whether the list has a bit not below n.

@@ -8,7 +8,7 @@ use native.Mathlib.Omega.{arith}
 use lib.Dec.{eqb, ltb, leb}
 use borrow.Author.Tests.{ltb-false, leb-true, leb-false, eqb-false, lt-ltb, le-ltb, lt-leb, le-leb, ne-eqb, not-false}
 use Rattle.ancestors.specs.Ancestors.{has}
-use Rattle.ancestors.proofs.Cases.{or-neither}
+use Rattle.ancestors.proofs.Cases.{or-neither, eqb-same}
 use Rattle.ancestors.proofs.Laws.{has-beyond, bit-beyond}
 use Rattle.network.specs.Faults.{maxNodes, maxCost, maxLabel, maxGrade, sizeFault, nodeFault, pairFault, costFault, gradeFault, originFault, rowLabelFault, reportLabelFault, predecessorFault, listFault, arcFault, rowFault, reportFault}
 
@@ -55,6 +55,10 @@ sender-bad n s r h = rw (le-leb n s h)
 pub receiver-bad : (n s r : ℕ) → n ≤ r → pairFault n s r ≡ true
 unfolding pairFault
 receiver-bad n s r h = rw (le-leb n r h, or-true (leb n s))
+
+pub pair-same : (n r : ℕ) → pairFault n r r ≡ true
+unfolding pairFault
+pair-same n r = rw (eqb-same r, or-true (leb n r), or-true (leb n r))
 
 pub cost-says : (c : ℕ) → costFault c ≡ false → c ≤ maxCost
 unfolding costFault
