@@ -1,5 +1,5 @@
 -- What crates above may cite of a network in words without knowing the layout: its size, the origin's row, what a row, a cost or a report that is read
--- says, pairs read without n, and what a call leaves.
+-- says, and what a call leaves.
 -- Assumes nothing.
 use mathlib.Core.Path.{_≡_, refl, sym, ap, _∙_}
 use mathlib.Core.Bool.{Bool, true, false, cond}
@@ -7,14 +7,14 @@ use mathlib.Core.Logic.{_≢_}
 use mathlib.Core.List.{List}
 use Prim.Native.Nat.{ℕ, _+_, _<_, _≤_, min}
 use native.Mathlib.Omega.{arith}
-use borrow.Author.Tests.{eq-eqb, ne-eqb, lt-ltb, lt-leb}
+use borrow.Author.Tests.{eq-eqb, ne-eqb, lt-ltb}
 use Rattle.ancestors.specs.Ancestors.{own, hops}
 use Rattle.ancestors.proofs.Cases.{never, eqb-same}
 use Rattle.network.specs.Faults.{maxNodes, nodeFault, pairFault}
 use Rattle.network.specs.Network.{Row, none, root, via, Report, empty, told, Net, outcome}
 use Rattle.network.proofs.FaultLaws.{node-free}
 use Rattle.network.proofs.Effects.{outcome-number, refused-net, accepted-net}
-use Rattle.memory.specs.Layout.{word, cell, rowOf, nodeRow, netOf, frameIn, look, view, wide, listWord, arcCosts, heldLabels, heldLists, rowLabels, rowPredecessors, rowLists}
+use Rattle.memory.specs.Layout.{word, rowOf, nodeRow, netOf, frameIn, look, view, listWord, rowLabels, rowPredecessors, rowLists}
 use Rattle.memory.specs.Answers.{Leaves, Starts, RowAnswer, rowHops, readRow, rowMeans, CostAnswer, readCost, costMeans, HeldAnswer, readHeld, heldMeans}
 use Rattle.memory.specs.declared.RowRead.{RowRead}
 use Rattle.memory.specs.declared.RowRead.the-variants as R
@@ -161,32 +161,6 @@ module _ (x : Net) (s t : ℕ) (r : HeldRead) (said : heldMeans r ≡ readHeld x
   pub said-report : {d l : ℕ} → r ≡ H.Report d l → (pairFault (x .nodes) s t ≡ false) × (x .held s t ≡ told d l)
   unfolding heldMeans
   said-report {d} {l} e = held-said (told d l) (ap heldMeans e)
-
--- ---- a pair of nodes below n reads the same whether n counts or all 32 nodes do
-
--- a test of two numbers below both bounds is whether they are equal
-same-fault : (n m s r : ℕ) → s < n → r < n → s < m → r < m → pairFault n s r ≡ pairFault m s r
-unfolding pairFault
-same-fault n m s r a b c d = rw (lt-leb n s a, lt-leb n r b, lt-leb m s c, lt-leb m r d)
-
-module _ (xs : List ℕ) (s r : ℕ) (hs : s < view xs .nodes) (hr : r < view xs .nodes) where
-  small : (s < maxNodes) × (r < maxNodes)
-  small = (omega (arith, few xs), omega (arith, few xs))
-
-  fault-same : pairFault maxNodes s r ≡ pairFault (view xs .nodes) s r
-  fault-same = same-fault maxNodes (view xs .nodes) s r (small .0) (small .1) hs hr
-
-  cell-same : (b : ℕ) → cell maxNodes (look xs) b s r ≡ cell (view xs .nodes) (look xs) b s r
-  unfolding cell
-  cell-same b = rw (lt-ltb s maxNodes (small .0), lt-ltb r maxNodes (small .1), lt-ltb s (view xs .nodes) hs, lt-ltb r (view xs .nodes) hr)
-
-  pub wide-cost : readCost (wide xs) s r ≡ readCost (view xs) s r
-  unfolding readCost wide view netOf frameIn
-  wide-cost = rw (fault-same, cell-same arcCosts)
-
-  pub wide-held : readHeld (wide xs) s r ≡ readHeld (view xs) s r
-  unfolding readHeld wide view netOf frameIn
-  wide-held = rw (fault-same, cell-same heldLabels, cell-same heldLists)
 
 -- ---- what a call leaves, from its number
 

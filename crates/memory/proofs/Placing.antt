@@ -7,7 +7,7 @@ use mathlib.Core.List.{List}
 use Prim.Native.Nat.{ℕ, _+_, _*_, _<_}
 use native.Mathlib.Omega.{arith}
 use lib.ListN.{length, set}
-use borrow.Author.Tests.{ne-eqb}
+use borrow.Author.Tests.{lt-ltb, ne-eqb}
 use Rattle.ancestors.specs.Ancestors.{has}
 use Rattle.ancestors.proofs.Cases.{never}
 use Rattle.ancestors.proofs.Laws.{has-empty}
@@ -20,7 +20,7 @@ use Rattle.memory.specs.Layout.{wordCount, view, rowOf, heldLabels, held
 use Rattle.memory.specs.Inner.{Node}
 use Rattle.memory.specs.Answers.{Leaves}
 use Rattle.memory.proofs.Laws.{few, leaves-refused, leaves-accepted}
-use Rattle.memory.proofs.Store.{store-report}
+use Rattle.memory.proofs.Store.{Has, arc-is, store-report}
 
 -- a list with a node is not 0
 listed-some : (l i : ℕ) → has l i ≡ true → l ≢ 0
@@ -61,10 +61,16 @@ module _ (xs : List ℕ) (s r d l : ℕ) where
     pub report-place : (s < 32) × (r < 32)
     report-place = let p = nodes in (omega (arith, few xs), omega (arith, few xs))
 
+    -- there is an arc
+    arc : Has xs s r ≡ true
+    arc =
+        let f = report-says (view xs .nodes) (view xs .cost s r) s d l (place-report-accepted (view xs) s r d l e .1) in
+        arc-is xs s r ∙ lt-ltb 0 (view xs .cost s r) (f .arc)
+
     pub placed-report : length xs ≡ wordCount
         → Leaves (placeReportOf (view xs) s r d l) 0 xs (set (set xs (heldLabels + (r * 32 + s)) d) (heldLists + (r * 32 + s)) l)
     unfolding placeReportOf reportOf
     placed-report size =
         let f = report-says (view xs .nodes) (view xs .cost s r) s d l (place-report-accepted (view xs) s r d l e .1) in
         leaves-accepted _ (withHeld (view xs) s r (told d l)) xs _ (sym e)
-        (store-report xs size s r (nodes .0) (nodes .1) d l ∙ rw (ne-eqb l 0 (listed-some l s (f .own))))
+        (store-report xs size s r (place-report-accepted (view xs) s r d l e .0) d l arc ∙ rw (ne-eqb l 0 (listed-some l s (f .own))))

@@ -1,24 +1,29 @@
--- What the words give where a row, a cost or a report is read.
+-- What the words give where a row, a cost, a report or a receiver's arcs are read.
 -- Assumes nothing.
-use mathlib.Core.Path.{_≡_, sym, ap, _∙_}
-use mathlib.Core.Bool.{true, false, cond}
+use mathlib.Core.Path.{_≡_, refl, sym, ap, _∙_}
+use mathlib.Core.Bool.{Bool, true, false, cond, not, _&&_, and-false}
 use mathlib.Core.Logic.{_≢_}
 use mathlib.Core.List.{List}
-use Prim.Native.Nat.{ℕ, _+_, _*_, _<_, _≤_}
+use Prim.Native.Nat.{ℕ, _+_, _*_, _^_, _<_, _≤_}
 use native.Mathlib.Omega.{arith}
 use lib.Dec.{ltb}
-use borrow.Author.Tests.{lt-ltb, eq-eqb, ne-eqb}
-use Rattle.ancestors.specs.Ancestors.{own, hops}
-use Rattle.network.specs.Faults.{pairFault}
+use lib.Bits.{bitAnd, and-le-l}
+use borrow.Author.Tests.{lt-ltb, le-ltb, eq-eqb, ne-eqb}
+use Rattle.ancestors.specs.Ancestors.{has, own, hops}
+use Rattle.ancestors.proofs.Sets.{has-and, those-has, those-ext}
+use Rattle.network.specs.Faults.{maxNodes, pairFault}
 use Rattle.network.specs.Network.{Row, Net}
-use Rattle.network.specs.Words.{reportOf}
+use Rattle.network.specs.Round.{everyArc}
+use Rattle.network.specs.Arcs.{arcsTo, senders}
+use Rattle.network.specs.Words.{reportOf, costOf}
+use Rattle.network.proofs.Arcs.{senders-has}
 use Rattle.network.proofs.FaultLaws.{node-free, node-bad, pair-says}
-use Rattle.memory.specs.Layout.{netOf, look, view, wide, rowOf, arcCosts, heldLabels, heldLists, rowLabels, rowLists, rowPredecessors}
-use Rattle.memory.specs.Answers.{RowAnswer, rowHops, readRow, rowMeans, readCost, costMeans, readHeld, heldMeans}
+use Rattle.memory.specs.Layout.{present, look, view, rowOf, pairWord, costWord, heldLabelWord, heldListWord, arcBits, arcCosts, heldLabels, heldLists, rowLabels, rowLists, rowPredecessors}
+use Rattle.memory.specs.Answers.{RowAnswer, rowHops, readRow, rowMeans, readArcs, arcsMeans, readCost, costMeans, readHeld, heldMeans}
 use Rattle.memory.specs.declared.RowRead.the-variants as R
 use Rattle.memory.specs.declared.HeldRead.the-variants as H
 use Rattle.memory.proofs.Laws.{few, read-origin}
-use Rattle.memory.proofs.Store.{cell-in, read-relay}
+use Rattle.memory.proofs.Store.{Has, present-in, arc-is, read-cost, read-held, cost-none, held-none, read-relay}
 
 -- ---- rows
 
@@ -53,35 +58,91 @@ module _ (xs : List ℕ) (y : ℕ) (node : y < view xs .nodes) where
     row-route k e q =
         rw q (sym (read-node (view xs) y node ∙ ap answer (sym (read-relay xs y node relay) ∙ rw (ne-eqb (look xs (rowLists + y)) 0 e))))
 
--- ---- pairs of 32 nodes
+-- ---- words of pairs
 
-module _ (xs : List ℕ) (s r : ℕ) (e : pairFault 32 s r ≡ true) where
-  pub pair-cost-refused : costMeans (record { number = 3; cost = 0 }) ≡ readCost (wide xs) s r
-  unfolding costMeans readCost wide netOf
-  pair-cost-refused = rw e
+pub pair-word-in : (xs : List ℕ) (b s r : ℕ) → s < maxNodes → r < maxNodes → look xs (b + (r * 32 + s)) ≡ pairWord xs b s r
+unfolding pairWord
+pair-word-in xs b s r h k = rw (lt-ltb s maxNodes h, lt-ltb r maxNodes k)
 
-  pub pair-held-refused : heldMeans H.Refused ≡ readHeld (wide xs) s r
-  unfolding heldMeans readHeld wide netOf
-  pair-held-refused = rw e
+pub pair-word-sender : (xs : List ℕ) (b s r : ℕ) → maxNodes ≤ s → 0 ≡ pairWord xs b s r
+unfolding pairWord
+pair-word-sender xs b s r h = rw (le-ltb s maxNodes h)
 
-module _ (xs : List ℕ) (s r : ℕ) (e : pairFault 32 s r ≡ false) where
-  held-is : reportOf (look xs (heldLabels + (r * 32 + s))) (look xs (heldLists + (r * 32 + s))) ≡ wide xs .held s r
-  unfolding wide netOf
-  held-is =
-      let p = pair-says 32 s r e in
-      λ j. reportOf (sym (cell-in 32 (look xs) heldLabels s r (p .0) (p .1)) j) (sym (cell-in 32 (look xs) heldLists s r (p .0) (p .1)) j)
+pub pair-word-receiver : (xs : List ℕ) (b s r : ℕ) → maxNodes ≤ r → 0 ≡ pairWord xs b s r
+unfolding pairWord
+pair-word-receiver xs b s r h = rw (le-ltb r maxNodes h, and-false (ltb s maxNodes))
 
-  pub pair-cost-read : costMeans (record { number = 0; cost = look xs (arcCosts + (r * 32 + s)) }) ≡ readCost (wide xs) s r
-  unfolding costMeans readCost wide netOf
-  pair-cost-read =
-      let p = pair-says 32 s r e in
-      rw (e, cell-in 32 (look xs) arcCosts s r (p .0) (p .1))
+-- ---- costs and reports
 
-  pub pair-held-none : look xs (heldLists + (r * 32 + s)) ≡ 0 → heldMeans H.Empty ≡ readHeld (wide xs) s r
-  unfolding heldMeans readHeld reportOf wide netOf
-  pair-held-none z = rw (e, ← held-is, eq-eqb (look xs (heldLists + (r * 32 + s))) 0 z)
+module _ (xs : List ℕ) (s r : ℕ) where
+  module _ (e : pairFault (view xs .nodes) s r ≡ true) where
+    pub cost-refused : costMeans (record { number = 3; cost = 0 }) ≡ readCost (view xs) s r
+    unfolding costMeans readCost
+    cost-refused = rw e
 
-  pub pair-held-told : look xs (heldLists + (r * 32 + s)) ≢ 0
-      → heldMeans (H.Report (look xs (heldLabels + (r * 32 + s))) (look xs (heldLists + (r * 32 + s)))) ≡ readHeld (wide xs) s r
-  unfolding heldMeans readHeld reportOf wide netOf
-  pair-held-told z = rw (e, ← held-is, ne-eqb (look xs (heldLists + (r * 32 + s))) 0 z)
+    pub held-refused : heldMeans H.Refused ≡ readHeld (view xs) s r
+    unfolding heldMeans readHeld
+    held-refused = rw e
+
+  module _ (e : pairFault (view xs .nodes) s r ≡ false) where
+    -- the bit of the sender in the word of the receiver's arcs
+    abbrev bit : Bool
+    bit = has (look xs (arcBits + r)) s
+
+    here : Has xs s r ≡ bit
+    here = present-in (view xs .nodes) (look xs) s r e
+
+    word-is : (b : ℕ) → look xs (b + (r * 32 + s)) ≡ pairWord xs b s r
+    word-is b = let p = pair-says (view xs .nodes) s r e in pair-word-in xs b s r (omega (arith, few xs)) (omega (arith, few xs))
+
+    pub cost-present : bit ≡ true → costMeans (record { number = 0; cost = costWord xs s r }) ≡ readCost (view xs) s r
+    unfolding costMeans readCost
+    cost-present t = rw (e, ← word-is arcCosts, read-cost xs s r (here ∙ t))
+
+    pub cost-absent : bit ≡ false → costMeans (record { number = 0; cost = 0 }) ≡ readCost (view xs) s r
+    unfolding costMeans readCost
+    cost-absent t = rw (e, cost-none xs s r (here ∙ t))
+
+    pub held-absent : bit ≡ false → heldMeans H.Empty ≡ readHeld (view xs) s r
+    unfolding heldMeans readHeld
+    held-absent t = rw (e, held-none xs s r (here ∙ t))
+
+    held-is : bit ≡ true → reportOf (heldLabelWord xs s r) (heldListWord xs s r) ≡ view xs .held s r
+    held-is t = (λ j. reportOf (sym (word-is heldLabels) j) (sym (word-is heldLists) j)) ∙ read-held xs s r (here ∙ t)
+
+    pub held-empty : bit ≡ true → heldListWord xs s r ≡ 0 → heldMeans H.Empty ≡ readHeld (view xs) s r
+    unfolding heldMeans readHeld reportOf
+    held-empty t z = rw (e, ← held-is t, eq-eqb (heldListWord xs s r) 0 z)
+
+    pub held-told : bit ≡ true → heldListWord xs s r ≢ 0 → heldMeans (H.Report (heldLabelWord xs s r) (heldListWord xs s r)) ≡ readHeld (view xs) s r
+    unfolding heldMeans readHeld reportOf
+    held-told t z = rw (e, ← held-is t, ne-eqb (heldListWord xs s r) 0 z)
+
+-- ---- arcs as words
+
+both-ways : (a b : Bool) → (a && b) ≡ (b && a)
+both-ways true true = refl
+both-ways true false = refl
+both-ways false true = refl
+both-ways false false = refl
+
+-- the bits in range of the stored word are the arcs
+pub arcs-word : (xs : List ℕ) (n r : ℕ) → n ≡ view xs .nodes → look xs (arcBits + r) < 2 ^ 32 → bitAnd (look xs (arcBits + r)) (senders n r) ≡ arcsTo (view xs) r
+unfolding arcsTo everyArc present
+arcs-word xs n r is fits =
+    those-has 32 (bitAnd w (senders n r)) (omega (arith, and-le-l w (senders n r)))
+    ∙ those-ext (has (bitAnd w (senders n r))) _ 32
+    (λ s h. has-and w (senders n r) s ∙ ap (_&&_ (has w s)) (senders-has n r s h ∙ ap (λ k. not (pairFault k s r)) is)
+    ∙ both-ways (has w s) (not (pairFault (view xs .nodes) s r)) ∙ arc-is xs s r)
+  where
+    w : ℕ
+    w = look xs (arcBits + r)
+
+module _ (x : Net) (r : ℕ) where
+  pub arcs-refused : x .nodes ≤ r → arcsMeans (record { number = 3; arcs = 0 }) ≡ readArcs x r
+  unfolding arcsMeans readArcs
+  arcs-refused h = rw (node-bad (x .nodes) r h)
+
+  pub arcs-read : (w : ℕ) → r < x .nodes → w ≡ arcsTo x r → arcsMeans (record { number = 0; arcs = w }) ≡ readArcs x r
+  unfolding arcsMeans readArcs
+  arcs-read w h e = rw (node-free (x .nodes) r h, e)

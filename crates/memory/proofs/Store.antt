@@ -1,7 +1,7 @@
 -- What stores do to the network that the words give. Address arithmetic stands here alone.
 -- Assumes nothing.
-use mathlib.Core.Path.{_≡_, refl, sym, ap, _∙_}
-use mathlib.Core.Bool.{Bool, false, cond, _&&_, and-false}
+use mathlib.Core.Path.{_≡_, refl, sym, ap, ap₂, _∙_}
+use mathlib.Core.Bool.{Bool, true, false, cond, not, _&&_}
 use mathlib.Core.Logic.{_⊎_, inl, inr, _≢_, ⊎-elim}
 use mathlib.Core.List.{List}
 use Prim.Native.Nat.{ℕ, _+_, _*_, _<_, _≤_, min}
@@ -10,15 +10,15 @@ use lib.Dec.{eqb, ltb}
 use lib.ListN.{length, set, length-set}
 use lib.Seq.{getD-set-same, getD-set-other}
 use borrow.Author.Tests.{lt-ltb, le-ltb, eq-eqb, ne-eqb}
-use Rattle.ancestors.specs.Ancestors.{own}
-use Rattle.ancestors.proofs.Cases.{le-or-lt, eq-or-ne, eqb-same}
-use Rattle.network.specs.Network.{Frame, root, Report, setPair, setAt, withCost, withHeld, withRow}
+use Rattle.ancestors.specs.Ancestors.{has, own}
+use Rattle.ancestors.proofs.Cases.{bool-cases, le-or-lt, eq-or-ne, eqb-same, never}
+use Rattle.network.specs.Network.{Frame, root, Report, empty, setPair, setAt, withCost, withHeld, withRow}
 use Rattle.network.specs.Faults.{maxNodes, pairFault}
-use Rattle.network.specs.Words.{reportOf}
-use Rattle.network.proofs.FaultLaws.{pair-says}
+use Rattle.network.specs.Words.{reportOf, costOf}
+use Rattle.network.proofs.FaultLaws.{pair-says, sender-bad, receiver-bad}
 use Rattle.network.proofs.Effects.{same-net}
 use Rattle.memory.specs.Inner.{Node}
-use Rattle.memory.specs.Layout.{wordCount, frameIn, word, cell, rowOf, nodeRow, netOf, look, view, arcCosts, heldLabels, heldLists, rowLabels, rowLists, rowPredecessors}
+use Rattle.memory.specs.Layout.{wordCount, frameIn, word, present, atArc, rowOf, nodeRow, netOf, look, view, arcBits, arcCosts, heldLabels, heldLists, rowLabels, rowLists, rowPredecessors}
 use Rattle.memory.proofs.Laws.{few}
 
 -- ---- a word stored
@@ -63,7 +63,7 @@ gives-set {xs} {t} {f} i v g a b =
       framed = frame-away f i v a ∙ g .framed;
     }
 
--- ---- the words of nodes and pairs
+-- ---- the words of nodes
 module _ (n : ℕ) (f : ℕ → ℕ) (b : ℕ) where
   pub word-in : (y : ℕ) → y < n → word n f b y ≡ f (b + y)
   unfolding word
@@ -73,58 +73,29 @@ module _ (n : ℕ) (f : ℕ → ℕ) (b : ℕ) where
   unfolding word
   word-out y h = rw (le-ltb y n h)
 
-  pub cell-in : (s r : ℕ) → s < n → r < n → cell n f b s r ≡ f (b + (r * 32 + s))
-  unfolding cell
-  cell-in s r h k = rw (lt-ltb s n h, lt-ltb r n k)
-
-  cell-out : (s r : ℕ) → (n ≤ s) ⊎ (n ≤ r) → cell n f b s r ≡ 0
-  unfolding cell
-  cell-out s r (inl h) = rw (le-ltb s n h)
-  cell-out s r (inr h) = rw (le-ltb r n h, and-false (ltb s n))
-
   -- words of 0
   pub word-zero : (y : ℕ) → ((k : ℕ) → b ≤ k → f k ≡ 0) → word n f b y ≡ 0
   word-zero y z = ⊎-elim (λ h. word-out y h) (λ h. word-in y h ∙ z (b + y) (omega arith)) (le-or-lt n y)
 
-  pub cell-zero : (s r : ℕ) → ((k : ℕ) → b ≤ k → f k ≡ 0) → cell n f b s r ≡ 0
-  cell-zero s r z =
-      ⊎-elim (λ h. cell-out s r (inl h))
-      (λ h. ⊎-elim (λ k. cell-out s r (inr k)) (λ k. cell-in s r h k ∙ z (b + (r * 32 + s)) (omega arith)) (le-or-lt n r)) (le-or-lt n s)
-
--- a law of every word, or of every cell, may suppose that it is inside
+-- a law of every word may suppose that it is inside
 by-node : {A : Type 0} (n y : ℕ) → (y < n → A) → (n ≤ y → A) → A
 by-node n y p q = ⊎-elim (λ h. q h) (λ h. p h) (le-or-lt n y)
 
-module _ (n : ℕ) (f g : ℕ → ℕ) (b : ℕ) where
-  -- planes that agree inside give the same words
-  word-same : ((y : ℕ) → y < n → f (b + y) ≡ g (b + y)) → (y : ℕ) → word n f b y ≡ word n g b y
-  word-same e y = by-node n y (λ h. word-in n f b y h ∙ e y h ∙ sym (word-in n g b y h)) (λ h. word-out n f b y h ∙ sym (word-out n g b y h))
-
-  cell-same : ((s r : ℕ) → s < n → r < n → f (b + (r * 32 + s)) ≡ g (b + (r * 32 + s))) → (s r : ℕ) → cell n f b s r ≡ cell n g b s r
-  cell-same e s r =
-      by-node n s (λ h. by-node n r (λ k. cell-in n f b s r h k ∙ e s r h k ∙ sym (cell-in n g b s r h k)) (λ k. out (inr k))) (λ h. out (inl h))
-    where
-      out : (n ≤ s) ⊎ (n ≤ r) → cell n f b s r ≡ cell n g b s r
-      out h = cell-out n f b s r h ∙ sym (cell-out n g b s r h)
+-- planes that agree inside give the same words
+word-same : (n : ℕ) (f g : ℕ → ℕ) (b : ℕ) → ((y : ℕ) → y < n → f (b + y) ≡ g (b + y)) → (y : ℕ) → word n f b y ≡ word n g b y
+word-same n f g b e y =
+    by-node n y (λ h. word-in n f b y h ∙ e y h ∙ sym (word-in n g b y h)) (λ h. word-out n f b y h ∙ sym (word-out n g b y h))
 
 -- a store outside of a plane
-module _ (n : ℕ) (f : ℕ → ℕ) (b i v : ℕ) (few : n ≤ 32) where
-  pub word-away : (i < b) ⊎ (b + 32 ≤ i) → (y : ℕ) → word n (upd f i v) b y ≡ word n f b y
-  word-away o = word-same n (upd f i v) f b (λ y h. rw (ne-eqb (b + y) i (off y h o)))
-    where
-      off : (y : ℕ) → y < n → (i < b) ⊎ (b + 32 ≤ i) → b + y ≢ i
-      off y h (inl a) = λ e. omega arith
-      off y h (inr a) = λ e. omega arith
-
-  pub cell-away : (i < b) ⊎ (b + 1024 ≤ i) → (s r : ℕ) → cell n (upd f i v) b s r ≡ cell n f b s r
-  cell-away o = cell-same n (upd f i v) f b (λ s r h k. rw (ne-eqb (b + (r * 32 + s)) i (off s r h k o)))
-    where
-      off : (s r : ℕ) → s < n → r < n → (i < b) ⊎ (b + 1024 ≤ i) → b + (r * 32 + s) ≢ i
-      off s r h k (inl a) = λ e. omega arith
-      off s r h k (inr a) = λ e. omega arith
+pub word-away : (n : ℕ) (f : ℕ → ℕ) (b i v : ℕ) → n ≤ 32 → (i < b) ⊎ (b + 32 ≤ i) → (y : ℕ) → word n (upd f i v) b y ≡ word n f b y
+word-away n f b i v few o = word-same n (upd f i v) f b (λ y h. rw (ne-eqb (b + y) i (off y h o)))
+  where
+    off : (y : ℕ) → y < n → (i < b) ⊎ (b + 32 ≤ i) → b + y ≢ i
+    off y h (inl a) = λ e. omega arith
+    off y h (inr a) = λ e. omega arith
 
 -- a store past the rows
-row-away : (n : ℕ) (f : ℕ → ℕ) (o i v : ℕ) → n ≤ 32 → arcCosts ≤ i → (y : ℕ) → nodeRow n (upd f i v) o y ≡ nodeRow n f o y
+row-away : (n : ℕ) (f : ℕ → ℕ) (o i v : ℕ) → n ≤ 32 → arcBits ≤ i → (y : ℕ) → nodeRow n (upd f i v) o y ≡ nodeRow n f o y
 unfolding nodeRow
 row-away n f o i v few h y =
     λ j. cond (eqb y o) (root (own o))
@@ -132,7 +103,7 @@ row-away n f o i v few h y =
     (word-away n f rowLists i v few (inr (omega arith)) y j))
 
 -- a store in a plane
-module _ (n : ℕ) (f : ℕ → ℕ) (b v : ℕ) (few : n ≤ 32) where
+module _ (n : ℕ) (f : ℕ → ℕ) (b v : ℕ) where
   word-here : (y₀ : ℕ) → y₀ < n → word n (upd f (b + y₀) v) b y₀ ≡ v
   word-here y₀ h = word-in n (upd f (b + y₀) v) b y₀ h ∙ rw (eqb-same (b + y₀))
 
@@ -142,26 +113,102 @@ module _ (n : ℕ) (f : ℕ → ℕ) (b v : ℕ) (few : n ≤ 32) where
       (λ h. word-in n (upd f (b + y₀) v) b y h ∙ rw (ne-eqb (b + y) (b + y₀) (λ e. ne (omega arith))) (sym (word-in n f b y h)))
       (λ h. word-out n (upd f (b + y₀) v) b y h ∙ sym (word-out n f b y h))
 
-  cell-here : (s₀ r₀ : ℕ) → s₀ < n → r₀ < n → cell n (upd f (b + (r₀ * 32 + s₀)) v) b s₀ r₀ ≡ v
-  cell-here s₀ r₀ h k = cell-in n (upd f (b + (r₀ * 32 + s₀)) v) b s₀ r₀ h k ∙ rw (eqb-same (b + (r₀ * 32 + s₀)))
+-- ---- arcs, and what stands at a pair
 
-  cell-else : (s₀ r₀ s r : ℕ) → s₀ < n → r₀ < n → (s ≢ s₀) ⊎ (r ≢ r₀) → cell n (upd f (b + (r₀ * 32 + s₀)) v) b s r ≡ cell n f b s r
-  cell-else s₀ r₀ s r h₀ k₀ ne =
-      by-node n s
-      (λ h. by-node n r
-      (λ k. cell-in n g b s r h k ∙ rw (ne-eqb (b + (r * 32 + s)) (b + (r₀ * 32 + s₀)) (off h k ne)) (sym (cell-in n f b s r h k)))
-      (λ k. out (inr k)))
-      (λ h. out (inl h))
+module _ (n : ℕ) (f : ℕ → ℕ) (s r : ℕ) where
+  pub present-in : pairFault n s r ≡ false → present n f s r ≡ has (f (arcBits + r)) s
+  unfolding present
+  present-in e = rw e
+
+  pub present-out : pairFault n s r ≡ true → present n f s r ≡ false
+  unfolding present
+  present-out e = rw e
+
+  -- an arc joins two nodes
+  pub present-pair : present n f s r ≡ true → pairFault n s r ≡ false
+  present-pair e = go (bool-cases (pairFault n s r))
     where
-      g : ℕ → ℕ
-      g = upd f (b + (r₀ * 32 + s₀)) v
+      go : (pairFault n s r ≡ true) ⊎ (pairFault n s r ≡ false) → pairFault n s r ≡ false
+      go (inl q) = never (present n f s r) e (present-out q)
+      go (inr q) = q
 
-      out : (n ≤ s) ⊎ (n ≤ r) → cell n g b s r ≡ cell n f b s r
-      out h = cell-out n g b s r h ∙ sym (cell-out n f b s r h)
+  module _ {A : Type 0} (g : ℕ → A) (z : A) where
+    pub at-arc : present n f s r ≡ true → atArc n f g z s r ≡ g (r * 32 + s)
+    unfolding atArc
+    at-arc e = rw e
 
-      off : s < n → r < n → (s ≢ s₀) ⊎ (r ≢ r₀) → b + (r * 32 + s) ≢ b + (r₀ * 32 + s₀)
-      off h k (inl d) = λ e. d (omega arith)
-      off h k (inr d) = λ e. d (omega arith)
+    pub at-none : present n f s r ≡ false → atArc n f g z s r ≡ z
+    unfolding atArc
+    at-none e = rw e
+
+-- where two lists of words have the same arc, and the same stands at it
+at-same : {A : Type 0} (n : ℕ) (f f′ : ℕ → ℕ) (g g′ : ℕ → A) (z : A) (s r : ℕ) → present n f s r ≡ present n f′ s r
+    → (pairFault n s r ≡ false → g (r * 32 + s) ≡ g′ (r * 32 + s)) → atArc n f g z s r ≡ atArc n f′ g′ z s r
+at-same n f f′ g g′ z s r p e = go (bool-cases (present n f s r))
+  where
+    go : (present n f s r ≡ true) ⊎ (present n f s r ≡ false) → atArc n f g z s r ≡ atArc n f′ g′ z s r
+    go (inl q) = at-arc n f s r g z q ∙ e (present-pair n f s r q) ∙ sym (at-arc n f′ s r g′ z (sym p ∙ q))
+    go (inr q) = at-none n f s r g z q ∙ sym (at-none n f′ s r g′ z (sym p ∙ q))
+
+-- a store to the place of a pair, and to another place
+this-place : (f : ℕ → ℕ) (i v : ℕ) → upd f i v i ≡ v
+this-place f i v = rw (eqb-same i)
+
+other-place : (f : ℕ → ℕ) (b i v s r : ℕ) → (b + (r * 32 + s) ≢ i) → upd f i v (b + (r * 32 + s)) ≡ f (b + (r * 32 + s))
+other-place f b i v s r h = rw (ne-eqb (b + (r * 32 + s)) i h)
+
+module _ (n : ℕ) (f : ℕ → ℕ) (few : n ≤ 32) where
+  -- a store outside of the words of arcs
+  present-away : (i v s r : ℕ) → (i < arcBits) ⊎ (arcCosts ≤ i) → present n (upd f i v) s r ≡ present n f s r
+  present-away i v s r o = go (bool-cases (pairFault n s r))
+    where
+      off : r < n → (i < arcBits) ⊎ (arcCosts ≤ i) → arcBits + r ≢ i
+      off h (inl a) = λ e. omega arith
+      off h (inr a) = λ e. omega arith
+
+      go : (pairFault n s r ≡ true) ⊎ (pairFault n s r ≡ false) → present n (upd f i v) s r ≡ present n f s r
+      go (inl e) = present-out n (upd f i v) s r e ∙ sym (present-out n f s r e)
+      go (inr e) =
+          present-in n (upd f i v) s r e ∙ ap (λ w. has w s) (rw (ne-eqb (arcBits + r) i (off (pair-says n s r e .1) o))) ∙ sym (present-in n f s r e)
+
+  -- a store to the word of r's arcs that changes the bit of s alone
+  module _ (s r w : ℕ) (same : (j : ℕ) → j ≢ s → has w j ≡ has (f (arcBits + r)) j) where
+    present-else : (a b : ℕ) → (a ≢ s) ⊎ (b ≢ r) → present n (upd f (arcBits + r) w) a b ≡ present n f a b
+    present-else a b ne = go (bool-cases (pairFault n a b)) (eq-or-ne b r) ne
+      where
+        g : ℕ → ℕ
+        g = upd f (arcBits + r) w
+
+        go : (pairFault n a b ≡ true) ⊎ (pairFault n a b ≡ false) → (b ≡ r) ⊎ (b ≢ r) → (a ≢ s) ⊎ (b ≢ r) → present n g a b ≡ present n f a b
+        go (inl e) d ne = present-out n g a b e ∙ sym (present-out n f a b e)
+        go (inr e) (inl d) (inl ne) =
+            present-in n g a b e ∙ ap (λ v. has v a) (rw (eq-eqb (arcBits + b) (arcBits + r) (omega arith))) ∙ same a ne
+            ∙ ap (λ k. has (f (arcBits + k)) a) (sym d) ∙ sym (present-in n f a b e)
+        go (inr e) (inl d) (inr ne) = absurd (ne d)
+        go (inr e) (inr d) ne =
+            present-in n g a b e ∙ ap (λ v. has v a) (rw (ne-eqb (arcBits + b) (arcBits + r) (λ q. d (omega arith)))) ∙ sym (present-in n f a b e)
+
+    present-here : pairFault n s r ≡ false → present n (upd f (arcBits + r) w) s r ≡ has w s
+    present-here e = present-in n (upd f (arcBits + r) w) s r e ∙ ap (λ v. has v s) (rw (eqb-same (arcBits + r)))
+
+-- costs, and held reports, by pair
+abbrev costs-in : ℕ → (ℕ → ℕ) → ℕ → ℕ → ℕ
+costs-in n f = atArc n f (λ k. costOf (f (arcCosts + k))) 0
+
+abbrev held-in : ℕ → (ℕ → ℕ) → ℕ → ℕ → Report
+held-in n f = atArc n f (λ k. reportOf (f (heldLabels + k)) (f (heldLists + k))) empty
+
+-- a store before the arcs leaves both
+module _ (n : ℕ) (f : ℕ → ℕ) (few : n ≤ 32) (i v : ℕ) (before : i < arcBits) (s r : ℕ) where
+  costs-kept : costs-in n (upd f i v) s r ≡ costs-in n f s r
+  costs-kept =
+      at-same n (upd f i v) f _ _ 0 s r (present-away n f few i v s r (inl before))
+      (λ _. ap costOf (other-place f arcCosts i v s r (λ e. omega arith)))
+
+  held-kept : held-in n (upd f i v) s r ≡ held-in n f s r
+  held-kept =
+      at-same n (upd f i v) f _ _ empty s r (present-away n f few i v s r (inl before))
+      (λ _. λ j. reportOf (other-place f heldLabels i v s r (λ e. omega arith) j) (other-place f heldLists i v s r (λ e. omega arith) j))
 
 -- ---- a function set at a pair or at a node, from its values there and elsewhere
 by-pair : {A : Type 0} (f g : ℕ → ℕ → A) (s r : ℕ) (v : A) → g s r ≡ v → ((a b : ℕ) → (a ≢ s) ⊎ (b ≢ r) → g a b ≡ f a b)
@@ -184,25 +231,49 @@ by-place f g y v here else a = go (eq-or-ne a y)
 
 -- ---- what stands at a node and at a pair
 module _ (xs : List ℕ) where
-  pub read-cost : (s r : ℕ) → s < view xs .nodes → r < view xs .nodes → look xs (arcCosts + (r * 32 + s)) ≡ view xs .cost s r
-  unfolding view netOf frameIn
-  read-cost s r h k = sym (cell-in (min (look xs 0) 32) (look xs) arcCosts s r h k)
+  abbrev nodes : ℕ
+  nodes = view xs .nodes
+
+  -- the arc from s to r is present
+  abbrev pub Has : ℕ → ℕ → Bool
+  Has s r = present nodes (look xs) s r
 
   pub read-first : look xs 1 ≡ view xs .origin
   unfolding view netOf frameIn
   read-first = refl
 
-  -- what lies at nodes not below n plays no part
-  pub cost-beyond : (s r : ℕ) → (view xs .nodes ≤ s) ⊎ (view xs .nodes ≤ r) → view xs .cost s r ≡ 0
+  -- what the words of a pair with an arc say
+  pub read-cost : (s r : ℕ) → Has s r ≡ true → costOf (look xs (arcCosts + (r * 32 + s))) ≡ view xs .cost s r
   unfolding view netOf frameIn
-  cost-beyond s r h = cell-out (min (look xs 0) 32) (look xs) arcCosts s r h
+  read-cost s r e = sym (at-arc nodes (look xs) s r _ 0 e)
 
-  pub read-held : (s r : ℕ) → s < view xs .nodes → r < view xs .nodes
+  pub read-held : (s r : ℕ) → Has s r ≡ true
       → reportOf (look xs (heldLabels + (r * 32 + s))) (look xs (heldLists + (r * 32 + s))) ≡ view xs .held s r
   unfolding view netOf frameIn
-  read-held s r h k =
-      let n = min (look xs 0) 32 in
-      λ j. reportOf (sym (cell-in n (look xs) heldLabels s r h k) j) (sym (cell-in n (look xs) heldLists s r h k) j)
+  read-held s r e = sym (at-arc nodes (look xs) s r _ empty e)
+
+  -- what lies at any other pair plays no part
+  pub cost-none : (s r : ℕ) → Has s r ≡ false → view xs .cost s r ≡ 0
+  unfolding view netOf frameIn
+  cost-none s r e = at-none nodes (look xs) s r _ 0 e
+
+  pub held-none : (s r : ℕ) → Has s r ≡ false → view xs .held s r ≡ empty
+  unfolding view netOf frameIn
+  held-none s r e = at-none nodes (look xs) s r _ empty e
+
+  -- an arc is present exactly where its cost is not 0
+  pub arc-is : (s r : ℕ) → Has s r ≡ ltb 0 (view xs .cost s r)
+  unfolding costOf
+  arc-is s r = go (bool-cases (Has s r))
+    where
+      go : (Has s r ≡ true) ⊎ (Has s r ≡ false) → Has s r ≡ ltb 0 (view xs .cost s r)
+      go (inl e) = e ∙ sym (lt-ltb 0 (view xs .cost s r) (omega (arith, read-cost s r e)))
+      go (inr e) = e ∙ sym (ap (ltb 0) (cost-none s r e))
+
+  -- what lies at nodes not below n plays no part
+  pub arc-beyond : (s r : ℕ) → (nodes ≤ s) ⊎ (nodes ≤ r) → Has s r ≡ false
+  arc-beyond s r (inl h) = present-out nodes (look xs) s r (sender-bad nodes s r h)
+  arc-beyond s r (inr h) = present-out nodes (look xs) s r (receiver-bad nodes s r h)
 
   pub read-relay : (y : ℕ) → y < view xs .nodes → y ≢ view xs .origin → rowOf (look xs (rowLabels + y)) (look xs (rowPredecessors + y))
       (look xs (rowLists + y)) ≡ view xs .row y
@@ -224,73 +295,169 @@ module _ (xs : List ℕ) (size : length xs ≡ wordCount) where
   abbrev f : ℕ → ℕ
   f = look xs
 
-  module _ (s r : ℕ) (hs : s < n) (hr : r < n) where
+  module _ (s r : ℕ) (pair : pairFault n s r ≡ false) where
     abbrev at : ℕ
     at = r * 32 + s
 
+    ends : (s < 32) × (r < 32)
+    ends = let p = pair-says n s r pair in (omega (arith, few xs), omega (arith, few xs))
+
     inside : (b : ℕ) → b ≤ heldLists → b + at < wordCount
-    inside b h = omega (arith, few xs)
+    inside b h = let p = ends in omega arith
 
-    -- an arc's cost, and the list of its report
-    pub store-arc : (c l : ℕ) → view (set (set xs (heldLists + at) l) (arcCosts + at) c) ≡ withHeld (withCost (view xs) s r c) s r
-        (reportOf (look xs (heldLabels + at)) l)
-    unfolding withHeld withCost view netOf frameIn
-    store-arc c l =
-        gives-view (gives-set (arcCosts + at) c (gives-set (heldLists + at) l (gives-start xs size) (omega arith)
-        (inside heldLists (omega arith))) (omega arith) (inside arcCosts (omega arith)))
-        ∙ same-net _ _ refl
-        (by-pair (cell n f arcCosts) (cell n h arcCosts) s r c (cell-here n g arcCosts c (few xs) s r hs hr)
-        (λ a b ne. cell-else n g arcCosts c (few xs) s r a b hs hr ne ∙ cell-away n f arcCosts (heldLists + at) l (few xs) (inr (omega arith)) a b))
-        (λ y. row-away n g o (arcCosts + at) c (few xs) (omega arith) y ∙ row-away n f o (heldLists + at) l (few xs) (omega arith) y)
-        (by-pair held (λ a b. reportOf (cell n h heldLabels a b) (cell n h heldLists a b)) s r (reportOf (look xs (heldLabels + at)) l)
-        (λ j. reportOf ((label s r ∙ cell-in n f heldLabels s r hs hr) j) ((list s r ∙ cell-here n f heldLists l (few xs) s r hs hr) j))
-        (λ a b ne. λ j. reportOf (label a b j) ((list a b ∙ cell-else n f heldLists l (few xs) s r a b hs hr ne) j)))
+    -- the place of a pair is no other pair's
+    apart : (b a c : ℕ) → pairFault n a c ≡ false → (a ≢ s) ⊎ (c ≢ r) → b + (c * 32 + a) ≢ b + at
+    apart b a c q ne = go ne (pair-says n a c q) ends
       where
-        g : ℕ → ℕ
-        g = upd f (heldLists + at) l
+        go : (a ≢ s) ⊎ (c ≢ r) → (a < n) × (c < n) × (a ≢ c) → (s < 32) × (r < 32) → b + (c * 32 + a) ≢ b + at
+        go (inl d) p k = λ e. d (omega (arith, few xs))
+        go (inr d) p k = λ e. d (omega (arith, few xs))
 
-        h : ℕ → ℕ
-        h = upd g (arcCosts + at) c
+    -- nor one of another plane
+    before : (b d a c : ℕ) → pairFault n a c ≡ false → b + 1024 ≤ d → b + (c * 32 + a) ≢ d + at
+    before b d a c q h = let p = pair-says n a c q in λ e. omega (arith, few xs)
 
-        held : ℕ → ℕ → Report
-        held a b = reportOf (cell n f heldLabels a b) (cell n f heldLists a b)
+    after : (b d a c : ℕ) → d + 1024 ≤ b → b + (c * 32 + a) ≢ d + at
+    after b d a c h = let p = ends in λ e. omega arith
 
-        label : (a b : ℕ) → cell n h heldLabels a b ≡ cell n f heldLabels a b
-        label a b = cell-away n g heldLabels (arcCosts + at) c (few xs) (inl (omega (arith, few xs))) a b ∙ cell-away n f heldLabels
-            (heldLists + at) l (few xs) (inr (omega arith)) a b
+    -- an arc set: the word of r's arcs, the arc's cost, and the list of its report
+    module _ (w c l : ℕ) (same : (j : ℕ) → j ≢ s → has w j ≡ has (f (arcBits + r)) j) (set-bit : has w s ≡ true) where
+      abbrev a₁ : ℕ → ℕ
+      a₁ = upd f (heldLists + at) l
 
-        list : (a b : ℕ) → cell n h heldLists a b ≡ cell n g heldLists a b
-        list a b = cell-away n g heldLists (arcCosts + at) c (few xs) (inl (omega (arith, few xs))) a b
+      abbrev a₂ : ℕ → ℕ
+      a₂ = upd a₁ (arcBits + r) w
+
+      abbrev a₃ : ℕ → ℕ
+      a₃ = upd a₂ (arcCosts + at) c
+
+      arcs-else : (a b : ℕ) → (a ≢ s) ⊎ (b ≢ r) → present n a₃ a b ≡ present n f a b
+      arcs-else a b ne =
+          present-away n a₂ (few xs) (arcCosts + at) c a b (inr (omega arith))
+          ∙ present-else n a₁ (few xs) s r w (λ j d. same j d ∙ ap (λ v. has v j) (sym (rw (ne-eqb (arcBits + r) (heldLists + at) (λ e. omega (arith, ends)))))) a b ne
+          ∙ present-away n f (few xs) (heldLists + at) l a b (inr (omega arith))
+
+      arcs-here : present n a₃ s r ≡ true
+      arcs-here =
+          present-away n a₂ (few xs) (arcCosts + at) c s r (inr (omega arith))
+          ∙ present-in n a₂ s r pair ∙ ap (λ v. has v s) (rw (eqb-same (arcBits + r))) ∙ set-bit
+
+      pub store-arc : view (set (set (set xs (heldLists + at) l) (arcBits + r) w) (arcCosts + at) c) ≡ withHeld (withCost (view xs) s r (costOf c)) s r
+          (reportOf (look xs (heldLabels + at)) l)
+      unfolding withHeld withCost view netOf frameIn
+      store-arc =
+          gives-view (gives-set (arcCosts + at) c (gives-set (arcBits + r) w (gives-set (heldLists + at) l (gives-start xs size) (omega arith)
+          (inside heldLists (omega arith))) (omega arith) (omega (arith, ends))) (omega arith) (inside arcCosts (omega arith)))
+          ∙ same-net _ _ refl
+          (by-pair (costs-in n f) (costs-in n a₃) s r (costOf c)
+          (at-arc n a₃ s r _ 0 arcs-here ∙ ap costOf (this-place a₂ (arcCosts + at) c)) costs)
+          (λ y. row-away n a₂ o (arcCosts + at) c (few xs) (omega arith) y ∙ row-away n a₁ o (arcBits + r) w (few xs) (omega arith) y
+          ∙ row-away n f o (heldLists + at) l (few xs) (omega arith) y)
+          (by-pair (held-in n f) (held-in n a₃) s r (reportOf (look xs (heldLabels + at)) l)
+          (at-arc n a₃ s r _ empty arcs-here ∙ (λ j. reportOf (label s r pair j) ((list s r ∙ this-place f (heldLists + at) l) j))) reports)
+        where
+          label : (a b : ℕ) → pairFault n a b ≡ false → a₃ (heldLabels + (b * 32 + a)) ≡ f (heldLabels + (b * 32 + a))
+          label a b q =
+              other-place a₂ heldLabels (arcCosts + at) c a b (after heldLabels arcCosts a b (omega arith))
+              ∙ other-place a₁ heldLabels (arcBits + r) w a b (λ e. omega (arith, ends))
+              ∙ other-place f heldLabels (heldLists + at) l a b (before heldLabels heldLists a b q (omega arith))
+
+          list : (a b : ℕ) → a₃ (heldLists + (b * 32 + a)) ≡ a₁ (heldLists + (b * 32 + a))
+          list a b =
+              other-place a₂ heldLists (arcCosts + at) c a b (after heldLists arcCosts a b (omega arith))
+              ∙ other-place a₁ heldLists (arcBits + r) w a b (λ e. omega (arith, ends))
+
+          costs : (a b : ℕ) → (a ≢ s) ⊎ (b ≢ r) → costs-in n a₃ a b ≡ costs-in n f a b
+          costs a b ne =
+              at-same n a₃ f _ _ 0 a b (arcs-else a b ne)
+              (λ q. ap costOf (other-place a₂ arcCosts (arcCosts + at) c a b (apart arcCosts a b q ne)
+              ∙ other-place a₁ arcCosts (arcBits + r) w a b (λ e. omega (arith, ends))
+              ∙ other-place f arcCosts (heldLists + at) l a b (before arcCosts heldLists a b q (omega arith))))
+
+          reports : (a b : ℕ) → (a ≢ s) ⊎ (b ≢ r) → held-in n a₃ a b ≡ held-in n f a b
+          reports a b ne =
+              at-same n a₃ f _ _ empty a b (arcs-else a b ne)
+              (λ q. λ j. reportOf (label a b q j) ((list a b ∙ other-place f heldLists (heldLists + at) l a b (apart heldLists a b q ne)) j))
+
+    -- an arc removed: the word of r's arcs
+    module _ (w : ℕ) (same : (j : ℕ) → j ≢ s → has w j ≡ has (f (arcBits + r)) j) (no-bit : has w s ≡ false) where
+      abbrev c₁ : ℕ → ℕ
+      c₁ = upd f (arcBits + r) w
+
+      gone : present n c₁ s r ≡ false
+      gone = present-here n f (few xs) s r w same pair ∙ no-bit
+
+      pub clear-arc : view (set xs (arcBits + r) w) ≡ withHeld (withCost (view xs) s r 0) s r empty
+      unfolding withHeld withCost view netOf frameIn
+      clear-arc =
+          gives-view (gives-set (arcBits + r) w (gives-start xs size) (omega arith) (omega (arith, ends)))
+          ∙ same-net _ _ refl
+          (by-pair (costs-in n f) (costs-in n c₁) s r 0 (at-none n c₁ s r _ 0 gone)
+          (λ a b ne. at-same n c₁ f _ _ 0 a b (present-else n f (few xs) s r w same a b ne)
+          (λ _. ap costOf (other-place f arcCosts (arcBits + r) w a b (λ e. omega (arith, ends))))))
+          (row-away n f o (arcBits + r) w (few xs) (omega arith))
+          (by-pair (held-in n f) (held-in n c₁) s r empty (at-none n c₁ s r _ empty gone)
+          (λ a b ne. at-same n c₁ f _ _ empty a b (present-else n f (few xs) s r w same a b ne)
+          (λ _. λ j. reportOf (other-place f heldLabels (arcBits + r) w a b (λ e. omega (arith, ends)) j)
+          (other-place f heldLists (arcBits + r) w a b (λ e. omega (arith, ends)) j))))
 
     -- the two words of a report
-    pub store-report : (d l : ℕ) → view (set (set xs (heldLabels + at) d) (heldLists + at) l) ≡ withHeld (view xs) s r (reportOf d l)
-    unfolding withHeld view netOf frameIn
-    store-report d l =
-        gives-view (gives-set (heldLists + at) l (gives-set (heldLabels + at) d (gives-start xs size) (omega arith)
-        (inside heldLabels (omega arith))) (omega arith) (inside heldLists (omega arith)))
-        ∙ same-net _ _ refl
-        (λ a b. cell-away n g arcCosts (heldLists + at) l (few xs) (inr (omega arith)) a b ∙ cell-away n f arcCosts (heldLabels + at) d
-        (few xs) (inr (omega arith)) a b)
-        (λ y. row-away n g o (heldLists + at) l (few xs) (omega arith) y ∙ row-away n f o (heldLabels + at) d (few xs) (omega arith) y)
-        (by-pair held (λ a b. reportOf (cell n h heldLabels a b) (cell n h heldLists a b)) s r (reportOf d l)
-        (λ j. reportOf ((label s r ∙ cell-here n f heldLabels d (few xs) s r hs hr) j) (cell-here n g heldLists l (few xs) s r hs hr j))
-        (λ a b ne. λ j. reportOf ((label a b ∙ cell-else n f heldLabels d (few xs) s r a b hs hr ne) j)
-        ((cell-else n g heldLists l (few xs) s r a b hs hr ne ∙ list a b) j)))
-      where
-        g : ℕ → ℕ
-        g = upd f (heldLabels + at) d
+    module _ (d l : ℕ) where
+      abbrev k₁ : ℕ → ℕ
+      k₁ = upd f (heldLabels + at) d
 
-        h : ℕ → ℕ
-        h = upd g (heldLists + at) l
+      abbrev k₂ : ℕ → ℕ
+      k₂ = upd k₁ (heldLists + at) l
 
-        held : ℕ → ℕ → Report
-        held a b = reportOf (cell n f heldLabels a b) (cell n f heldLists a b)
+      stored-report : Gives (set (set xs (heldLabels + at) d) (heldLists + at) l) (frameIn (look xs)) k₂
+      stored-report =
+          gives-set (heldLists + at) l (gives-set (heldLabels + at) d (gives-start xs size) (omega arith)
+          (inside heldLabels (omega arith))) (omega arith) (inside heldLists (omega arith))
 
-        label : (a b : ℕ) → cell n h heldLabels a b ≡ cell n g heldLabels a b
-        label a b = cell-away n g heldLabels (heldLists + at) l (few xs) (inr (omega arith)) a b
+      arcs-same : (a b : ℕ) → present n k₂ a b ≡ present n f a b
+      arcs-same a b = present-away n k₁ (few xs) (heldLists + at) l a b (inr (omega arith)) ∙ present-away n f (few xs) (heldLabels + at) d a b (inr (omega arith))
 
-        list : (a b : ℕ) → cell n g heldLists a b ≡ cell n f heldLists a b
-        list a b = cell-away n f heldLists (heldLabels + at) d (few xs) (inl (omega (arith, few xs))) a b
+      costs-same : (a b : ℕ) → costs-in n k₂ a b ≡ costs-in n f a b
+      costs-same a b =
+          at-same n k₂ f _ _ 0 a b (arcs-same a b)
+          (λ q. ap costOf (other-place k₁ arcCosts (heldLists + at) l a b (before arcCosts heldLists a b q (omega arith))
+          ∙ other-place f arcCosts (heldLabels + at) d a b (before arcCosts heldLabels a b q (omega arith))))
+
+      rows-same : (y : ℕ) → nodeRow n k₂ o y ≡ nodeRow n f o y
+      rows-same y = row-away n k₁ o (heldLists + at) l (few xs) (omega arith) y ∙ row-away n f o (heldLabels + at) d (few xs) (omega arith) y
+
+      reports-else : (a b : ℕ) → (a ≢ s) ⊎ (b ≢ r) → held-in n k₂ a b ≡ held-in n f a b
+      reports-else a b ne =
+          at-same n k₂ f _ _ empty a b (arcs-same a b)
+          (λ q. λ j. reportOf
+          ((other-place k₁ heldLabels (heldLists + at) l a b (before heldLabels heldLists a b q (omega arith))
+          ∙ other-place f heldLabels (heldLabels + at) d a b (apart heldLabels a b q ne)) j)
+          ((other-place k₁ heldLists (heldLists + at) l a b (apart heldLists a b q ne)
+          ∙ other-place f heldLists (heldLabels + at) d a b (after heldLists heldLabels a b (omega arith))) j))
+
+      -- of an arc
+      pub store-report : Has xs s r ≡ true → view (set (set xs (heldLabels + at) d) (heldLists + at) l) ≡ withHeld (view xs) s r (reportOf d l)
+      unfolding withHeld view netOf frameIn
+      store-report arc =
+          gives-view stored-report
+          ∙ same-net _ _ refl costs-same rows-same
+          (by-pair (held-in n f) (held-in n k₂) s r (reportOf d l)
+          (at-arc n k₂ s r _ empty (arcs-same s r ∙ arc)
+          ∙ (λ j. reportOf ((other-place k₁ heldLabels (heldLists + at) l s r (λ e. omega arith) ∙ this-place f (heldLabels + at) d) j)
+          (this-place k₁ (heldLists + at) l j)))
+          reports-else)
+
+      -- of a pair without an arc
+      pub store-unread : Has xs s r ≡ false → view (set (set xs (heldLabels + at) d) (heldLists + at) l) ≡ view xs
+      unfolding view netOf frameIn
+      store-unread none =
+          gives-view stored-report ∙ same-net _ _ refl costs-same rows-same (λ a b. go a b (eq-or-ne a s) (eq-or-ne b r))
+        where
+          go : (a b : ℕ) → (a ≡ s) ⊎ (a ≢ s) → (b ≡ r) ⊎ (b ≢ r) → held-in n k₂ a b ≡ held-in n f a b
+          go a b (inl p) (inl q) =
+              at-none n k₂ a b _ empty (arcs-same a b ∙ ap₂ (present n f) p q ∙ none) ∙ sym (at-none n f a b _ empty (ap₂ (present n f) p q ∙ none))
+          go a b (inl p) (inr q) = reports-else a b (inr q)
+          go a b (inr p) q = reports-else a b (inl p)
 
   module _ (y d p l : ℕ) (hy : y < n) where
     abbrev g₁ : ℕ → ℕ
@@ -323,21 +490,24 @@ module _ (xs : List ℕ) (size : length xs ≡ wordCount) where
     elsewhere : (a : ℕ) → a ≢ y → rowOf (word n g₃ rowLabels a) (word n g₃ rowPredecessors a) (word n g₃ rowLists a) ≡ rowOf
         (word n f rowLabels a) (word n f rowPredecessors a) (word n f rowLists a)
     elsewhere a ne =
-        λ j. rowOf ((labels a ∙ word-else n f rowLabels d (few xs) y a ne) j) ((predecessors a ∙ word-else n g₁ rowPredecessors p (few xs) y
-        a ne ∙ before-predecessors a) j)
-        ((word-else n g₂ rowLists l (few xs) y a ne ∙ before-lists a) j)
+        λ j. rowOf ((labels a ∙ word-else n f rowLabels d y a ne) j) ((predecessors a ∙ word-else n g₁ rowPredecessors p y a ne ∙ before-predecessors a) j)
+        ((word-else n g₂ rowLists l y a ne ∙ before-lists a) j)
 
     there : rowOf (word n g₃ rowLabels y) (word n g₃ rowPredecessors y) (word n g₃ rowLists y) ≡ rowOf d p l
     there =
-        λ j. rowOf ((labels y ∙ word-here n f rowLabels d (few xs) y hy) j)
-        ((predecessors y ∙ word-here n g₁ rowPredecessors p (few xs) y hy) j) (word-here n g₂ rowLists l (few xs) y hy j)
+        λ j. rowOf ((labels y ∙ word-here n f rowLabels d y hy) j)
+        ((predecessors y ∙ word-here n g₁ rowPredecessors p y hy) j) (word-here n g₂ rowLists l y hy j)
 
     -- a store to the rows leaves costs and reports
-    cells : (b : ℕ) → arcCosts ≤ b → (s r : ℕ) → cell n g₃ b s r ≡ cell n f b s r
-    cells b h s r =
-        cell-away n g₂ b (rowLists + y) l (few xs) (inl (omega (arith, small))) s r
-        ∙ cell-away n g₁ b (rowPredecessors + y) p (few xs) (inl (omega (arith, small))) s r
-        ∙ cell-away n f b (rowLabels + y) d (few xs) (inl (omega (arith, small))) s r
+    costs-stay : (s r : ℕ) → costs-in n g₃ s r ≡ costs-in n f s r
+    costs-stay s r =
+        costs-kept n g₂ (few xs) (rowLists + y) l (omega (arith, small)) s r ∙ costs-kept n g₁ (few xs) (rowPredecessors + y) p (omega (arith, small)) s r
+        ∙ costs-kept n f (few xs) (rowLabels + y) d (omega (arith, small)) s r
+
+    held-stay : (s r : ℕ) → held-in n g₃ s r ≡ held-in n f s r
+    held-stay s r =
+        held-kept n g₂ (few xs) (rowLists + y) l (omega (arith, small)) s r ∙ held-kept n g₁ (few xs) (rowPredecessors + y) p (omega (arith, small)) s r
+        ∙ held-kept n f (few xs) (rowLabels + y) d (omega (arith, small)) s r
 
     stored : Gives (set (set (set xs (rowLabels + y) d) (rowPredecessors + y) p) (rowLists + y) l) (frameIn (look xs)) g₃
     stored =
@@ -349,18 +519,17 @@ module _ (xs : List ℕ) (size : length xs ≡ wordCount) where
     unfolding withRow view netOf frameIn nodeRow
     store-row ne =
         gives-view stored
-        ∙ same-net _ _ refl (cells arcCosts (omega arith))
+        ∙ same-net _ _ refl costs-stay
         (by-place (nodeRow n f o) (nodeRow n g₃ o) y (rowOf d p l) (rw (ne-eqb y o ne) there)
         (λ a e. ap (λ w. cond (eqb a o) (root (own o)) w) (elsewhere a e)))
-        (λ a b. λ j. reportOf (cells heldLabels (omega arith) a b j) (cells heldLists (omega arith) a b j))
+        held-stay
 
     -- the origin's words are not read
     pub store-origin : y ≡ o → view (set (set (set xs (rowLabels + y) d) (rowPredecessors + y) p) (rowLists + y) l) ≡ view xs
     unfolding view netOf frameIn nodeRow
     store-origin e =
         gives-view stored
-        ∙ same-net _ _ refl (cells arcCosts (omega arith)) row
-        (λ a b. λ j. reportOf (cells heldLabels (omega arith) a b j) (cells heldLists (omega arith) a b j))
+        ∙ same-net _ _ refl costs-stay row held-stay
       where
         row : (a : ℕ) → nodeRow n g₃ o a ≡ nodeRow n f o a
         row a = go (eq-or-ne a o)

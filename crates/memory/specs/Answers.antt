@@ -7,10 +7,12 @@ use Prim.Native.Nat.{ℕ}
 use Rattle.ancestors.specs.Ancestors.{hops}
 use Rattle.network.specs.Faults.{nodeFault, pairFault}
 use Rattle.network.specs.Network.{Row, none, root, via, Report, empty, told, Net, Outcome}
+use Rattle.network.specs.Arcs.{arcsTo}
 use Rattle.memory.specs.Layout.{view}
 use Rattle.memory.specs.declared.RowRead.{RowRead}
 use Rattle.memory.specs.declared.RowRead.the-variants as R
 use Rattle.memory.specs.declared.CostRead.{CostRead}
+use Rattle.memory.specs.declared.ArcsRead.{ArcsRead}
 use Rattle.memory.specs.declared.HeldRead.{HeldRead}
 use Rattle.memory.specs.declared.HeldRead.the-variants as H
 
@@ -63,6 +65,20 @@ readCost x s r = cond (pairFault (x .nodes) s r) (record { number = 3; cost = 0 
 -- the number and the cost answered
 unfoldable pub costMeans : CostRead → CostAnswer
 costMeans r = record { number = r .number; cost = r .cost }
+
+-- ---- a receiver's arcs as a word
+
+pub record ArcsAnswer : Type 0 where
+  pub number : ℕ
+  pub arcs : ℕ
+
+-- 3 for a receiver not below n
+unfoldable pub readArcs : Net → ℕ → ArcsAnswer
+readArcs x r = cond (nodeFault (x .nodes) r) (record { number = 3; arcs = 0 }) (record { number = 0; arcs = arcsTo x r })
+
+-- the number and the word answered
+unfoldable pub arcsMeans : ArcsRead → ArcsAnswer
+arcsMeans r = record { number = r .number; arcs = r .arcs }
 
 -- ---- a held report as it is read
 

@@ -1,17 +1,19 @@
--- How a network lies in 3,200 words, and the network that any list of words gives. The constants in `memory`'s code say the same places, and
+-- How a network lies in 3,232 words, and the network that any list of words gives. The constants in `memory`'s code say the same places, and
 -- `routing` uses both; every other definition and crate goes by `view`.
--- Word 0 is n and word 1 the origin. Rows lie by node, costs and held reports by receiver times 32 plus sender. A list of 0 is no route, or an
--- empty report. The origin's row is not read from memory, an n above 32 counts as 32, and what lies at nodes not below n plays no part.
+-- Word 0 is n and word 1 the origin. Rows lie by node, arcs by receiver, costs and held reports by receiver times 32 plus sender. Whether an arc is
+-- present is said by its bit in the word of its receiver's arcs alone; costs are stored less one, so that no word of a cost says that there is none, and
+-- what lies at a pair without an arc plays no part. A list of 0 is no route, or an empty report. The origin's row is not read from memory, an n above 32
+-- counts as 32, and what lies at nodes not below n plays no part.
 -- Assumes nothing.
-use mathlib.Core.Bool.{cond, _&&_}
+use mathlib.Core.Bool.{Bool, cond, not, _&&_}
 use mathlib.Core.List.{List}
 use Prim.Native.Nat.{ℕ, _+_, _*_, min}
 use lib.Dec.{eqb, ltb}
 use lib.ListN.{getD}
-use Rattle.ancestors.specs.Ancestors.{own}
-use Rattle.network.specs.Faults.{maxNodes, pairCount}
-use Rattle.network.specs.Network.{Frame, Row, none, root, via, Net}
-use Rattle.network.specs.Words.{reportOf}
+use Rattle.ancestors.specs.Ancestors.{has, own}
+use Rattle.network.specs.Faults.{maxNodes, pairCount, pairFault}
+use Rattle.network.specs.Network.{Frame, Row, none, root, via, empty, Net}
+use Rattle.network.specs.Words.{reportOf, costOf}
 
 -- where labels, predecessors and lists of rows begin
 abbrev pub rowLabels : ℕ
@@ -23,9 +25,12 @@ rowPredecessors = rowLabels + maxNodes
 abbrev pub rowLists : ℕ
 rowLists = rowPredecessors + maxNodes
 
--- where costs, and labels and lists of held reports begin
+-- where the words of arcs, costs, and labels and lists of held reports begin
+abbrev pub arcBits : ℕ
+arcBits = rowLists + maxNodes
+
 abbrev pub arcCosts : ℕ
-arcCosts = rowLists + maxNodes
+arcCosts = arcBits + maxNodes
 
 abbrev pub heldLabels : ℕ
 heldLabels = arcCosts + pairCount
@@ -41,9 +46,13 @@ wordCount = heldLists + pairCount
 unfoldable pub word : ℕ → (ℕ → ℕ) → ℕ → ℕ → ℕ
 word n f b y = cond (ltb y n) (f (b + y)) 0
 
--- the word of a pair among those that begin at b
-unfoldable pub cell : ℕ → (ℕ → ℕ) → ℕ → ℕ → ℕ → ℕ
-cell n f b s r = cond (ltb s n && ltb r n) (f (b + (r * 32 + s))) 0
+-- the arc from s to r is present: they are two different nodes, and bit s is 1 in the word of r's arcs
+unfoldable pub present : ℕ → (ℕ → ℕ) → ℕ → ℕ → Bool
+present n f s r = not (pairFault n s r) && has (f (arcBits + r)) s
+
+-- what g gives at the place of a pair with an arc, and z at any other pair
+unfoldable pub atArc : {A : Type 0} → ℕ → (ℕ → ℕ) → (ℕ → A) → A → ℕ → ℕ → A
+atArc n f g z s r = cond (present n f s r) (g (r * 32 + s)) z
 
 -- a relay's row in three words
 unfoldable pub rowOf : ℕ → ℕ → ℕ → Row
@@ -64,9 +73,9 @@ netOf t f =
     record {
       nodes = n;
       origin = t .origin;
-      cost = cell n f arcCosts;
+      cost = atArc n f (λ k. costOf (f (arcCosts + k))) 0;
       row = nodeRow n f (t .origin);
-      held = λ s r. reportOf (cell n f heldLabels s r) (cell n f heldLists s r);
+      held = atArc n f (λ k. reportOf (f (heldLabels + k)) (f (heldLists + k))) empty;
     }
 
 -- the word at k
@@ -77,10 +86,20 @@ look xs k = getD xs k 0
 unfoldable pub view : List ℕ → Net
 view xs = netOf (frameIn (look xs)) (look xs)
 
--- the network of 32 nodes that words give, whatever they say of n
-unfoldable pub wide : List ℕ → Net
-wide xs = netOf (record { nodes = maxNodes; origin = look xs 1 }) (look xs)
-
 -- the word of the list of y's row, for 32 nodes
 unfoldable pub listWord : List ℕ → ℕ → ℕ
 listWord xs y = word maxNodes (look xs) rowLists y
+
+-- the word of a pair of 32 nodes among those that begin at b, whether or not there is an arc; 0 for other numbers
+unfoldable pub pairWord : List ℕ → ℕ → ℕ → ℕ → ℕ
+pairWord xs b s r = cond (ltb s maxNodes && ltb r maxNodes) (look xs (b + (r * 32 + s))) 0
+
+-- the cost that is stored for such a pair, and label and list of the report
+abbrev pub costWord : List ℕ → ℕ → ℕ → ℕ
+costWord xs s r = costOf (pairWord xs arcCosts s r)
+
+abbrev pub heldLabelWord : List ℕ → ℕ → ℕ → ℕ
+heldLabelWord xs s r = pairWord xs heldLabels s r
+
+abbrev pub heldListWord : List ℕ → ℕ → ℕ → ℕ
+heldListWord xs s r = pairWord xs heldLists s r

@@ -2,18 +2,19 @@
 //
 // Contracts go through `view`, the network that the words give (specs/Layout.antt), and hold for any words. A refused call leaves every word as it
 // stood, but for `make_fresh`: refused or not, it makes the words give a fresh network, and says nothing of words that play no part in it. Of
-// the public functions only `pair_cost`, `pair_held` and `list_word` read such words. No public function has a precondition.
+// the public functions only `list_word`, `cost_word`, `held_label_word` and `held_list_word` read such words. No public function has a precondition.
 ghost use mathlib.Core.Path.{_≡_};
-ghost use mathlib.Core.Bool.{_||_, cond};
+ghost use mathlib.Core.Bool.{false, cond};
 ghost use Prim.Native.Nat.{_<_, _≤_};
 ghost use lib.ListN.{length};
-ghost use lib.Dec.{eqb};
+ghost use Rattle.network.specs.Faults.{maxNodes, maxCost, pairFault};
 ghost use Rattle.network.specs.Network.{freshNet, freshOf};
+ghost use Rattle.network.specs.Arcs.{arcsTo, arcWords};
 ghost use Rattle.network.specs.Placing.{placeRowNumber, placeRowOf, placeReportNumber, placeReportOf};
 ghost use Rattle.network.specs.Change.{changed, changeOf, gradeOf};
-ghost use Rattle.memory.specs.Layout.{wordCount, view, wide, listWord};
-ghost use Rattle.memory.specs.Inner.{Node, Blank};
-ghost use Rattle.memory.specs.Answers.{Leaves, Starts, readRow, rowMeans, readCost, costMeans, readHeld, heldMeans};
+ghost use Rattle.memory.specs.Layout.{wordCount, heldLists, view, listWord, pairWord, costWord, heldLabelWord, heldListWord};
+ghost use Rattle.memory.specs.Inner.{Blank};
+ghost use Rattle.memory.specs.Answers.{Leaves, Starts, readRow, rowMeans, readArcs, arcsMeans, readCost, costMeans, readHeld, heldMeans};
 
 // Words for something of each node, and of each pair.
 const BY_NODE: usize = network::MAX_NODES as usize;
@@ -30,8 +31,10 @@ pub const ROW_LABELS: usize = 32;
 pub const ROW_PREDECESSORS: usize = ROW_LABELS + BY_NODE;
 
 pub const ROW_LISTS: usize = ROW_PREDECESSORS + BY_NODE;
-// By receiver times 32 plus sender.
-pub const COSTS: usize = ROW_LISTS + BY_NODE;
+// By receiver: bit s for the arc from s.
+pub const ARCS: usize = ROW_LISTS + BY_NODE;
+// By receiver times 32 plus sender; costs are stored less one.
+pub const COSTS: usize = ARCS + BY_NODE;
 
 pub const HELD_LABELS: usize = COSTS + BY_PAIR;
 
@@ -65,6 +68,12 @@ pub enum RowRead {
 pub struct CostRead {
     pub number: u8,
     pub cost: u32,
+}
+
+// A receiver's arcs as they are read: bit s is 1 where the arc from s is present. The number is 3 where the receiver is not below n.
+pub struct ArcsRead {
+    pub number: u8,
+    pub arcs: u32,
 }
 
 // A held report as it is read.
@@ -135,28 +144,48 @@ pub fn make_fresh(net: &mut Network, n: u32, origin: u32) -> u8
 
 // ---- change and grade
 
-// The list of an arc's report after a change: a removed or a new arc holds an empty report.
-fn kept_list(cost: u32, old: u32, list: u32) -> u32
-    ensures { λ r. ⌜ r ≡ cond (eqb cost 0 || eqb old 0) 0 list ⌝ }
+// The list of an arc's report once the arc is set: a new arc holds an empty report.
+fn kept_list(present: bool, list: u32) -> u32
+    ensures { λ r. ⌜ r ≡ cond present list 0 ⌝ }
 {
-    if cost == 0 {
-        return 0;
-    }
-    if old == 0 {
-        return 0;
-    }
-    list
+    if present { list } else { 0 }
+}
+
+fn remove_arc(net: &mut [u32], sender: u32, receiver: u32)
+    requires { ⌜ length (now net) ≡ wordCount ⌝ }
+    requires { ⌜ pairFault (view (now net) .nodes) sender receiver ≡ false ⌝ }
+    ensures { λ _. ⌜ view (now (net .exit)) ≡ changed (view (now (net .entry))) sender receiver 0 ⌝ }
+{
+    let of = ARCS + receiver as usize;
+    net[of] = ancestors::left_out(net[of], sender);
 }
 
 fn set_arc(net: &mut [u32], sender: u32, receiver: u32, cost: u32)
     requires { ⌜ length (now net) ≡ wordCount ⌝ }
-    requires { ⌜ Node (now net) sender ⌝ }
-    requires { ⌜ Node (now net) receiver ⌝ }
+    requires { ⌜ pairFault (view (now net) .nodes) sender receiver ≡ false ⌝ }
+    requires { ⌜ 0 < cost ⌝ }
+    requires { ⌜ cost ≤ maxCost ⌝ }
     ensures { λ _. ⌜ view (now (net .exit)) ≡ changed (view (now (net .entry))) sender receiver cost ⌝ }
 {
+    let of = ARCS + receiver as usize;
     let at = receiver as usize * 32 + sender as usize;
-    net[HELD_LISTS + at] = kept_list(cost, net[COSTS + at], net[HELD_LISTS + at]);
-    net[COSTS + at] = cost;
+    let arcs = net[of];
+    net[HELD_LISTS + at] = kept_list(ancestors::listed(arcs, sender), net[HELD_LISTS + at]);
+    net[of] = ancestors::joined(arcs, sender);
+    net[COSTS + at] = cost - 1;
+}
+
+fn put_cost(net: &mut [u32], sender: u32, receiver: u32, cost: u32)
+    requires { ⌜ length (now net) ≡ wordCount ⌝ }
+    requires { ⌜ pairFault (view (now net) .nodes) sender receiver ≡ false ⌝ }
+    requires { ⌜ cost ≤ maxCost ⌝ }
+    ensures { λ _. ⌜ view (now (net .exit)) ≡ changed (view (now (net .entry))) sender receiver cost ⌝ }
+{
+    if cost == 0 {
+        remove_arc(net, sender, receiver);
+    } else {
+        set_arc(net, sender, receiver, cost);
+    }
 }
 
 // Sets the cost of a pair; cost 0 removes the arc. Answers 0, or 3 for a bad pair or a cost above 65,535.
@@ -169,7 +198,7 @@ pub fn change(net: &mut Network, sender: u32, receiver: u32, cost: u32) -> u8
     if network::MAX_COST < cost {
         return 3;
     }
-    set_arc(net, sender, receiver, cost);
+    put_cost(net, sender, receiver, cost);
     0
 }
 
@@ -183,7 +212,7 @@ pub fn grade(net: &mut Network, sender: u32, receiver: u32, grade: u32) -> u8
     if network::MAX_GRADE < grade {
         return 3;
     }
-    set_arc(net, sender, receiver, faults::grade_cost(grade));
+    put_cost(net, sender, receiver, faults::grade_cost(grade));
     0
 }
 
@@ -216,8 +245,45 @@ pub fn row(net: &Network, node: u32) -> RowRead
     }
 }
 
-// The word of a node's list, for any of 32 nodes, whatever n and the origin are; 0 for other numbers. For a relay it is the list of its row, 0 where it
-// has no route; the origin's plays no part. n is not read, so that a caller that keeps to nodes below n does not have it read for each row.
+// The arcs of any of 32 nodes, as a word; 0 where it is not below n.
+fn arc_word(net: &Network, n: u32, receiver: u32) -> u32
+    requires { ⌜ n ≡ view (now net) .nodes ⌝ }
+    requires { ⌜ receiver < maxNodes ⌝ }
+    ensures { λ r. ⌜ r ≡ arcsTo (view (now (net .entry))) receiver ⌝ }
+{
+    net[ARCS + receiver as usize] & faults::senders(n, receiver)
+}
+
+// A receiver's arcs.
+pub fn arcs(net: &Network, receiver: u32) -> ArcsRead
+    ensures { λ r. ⌜ arcsMeans r ≡ readArcs (view (now (net .entry))) receiver ⌝ }
+{
+    let n = nodes(net);
+    if n <= receiver {
+        return ArcsRead { number: 3, arcs: 0 };
+    }
+    ArcsRead {
+        number: 0,
+        arcs: arc_word(net, n, receiver),
+    }
+}
+
+// The arcs of each of 32 nodes, in the order of marks; 0 from n on.
+pub fn arc_words(net: &Network) -> [u32; BY_NODE]
+    ensures { λ r. ⌜ r ≡ arcWords (view (now (net .entry))) ⌝ }
+{
+    let n = nodes(net);
+    let mut words = [0u32; BY_NODE];
+    for r in 0u32..network::MAX_NODES {
+        words[r as usize] = arc_word(net, n, r);
+    }
+    words
+}
+
+// What the words hold of any of 32 nodes, or of any pair of them, whatever n and the origin are and whether or not there is an arc: the next four calls.
+// n is not read, so that a caller that keeps to nodes below n, and to arcs that it knows, does not have it read each time.
+
+// The word of a node's list; 0 for other numbers. For a relay it is the list of its row, 0 where it has no route; the origin's plays no part.
 pub fn list_word(net: &Network, node: u32) -> u32
     ensures { λ r. ⌜ r ≡ listWord (now (net .entry)) node ⌝ }
 {
@@ -227,47 +293,38 @@ pub fn list_word(net: &Network, node: u32) -> u32
     net[ROW_LISTS + node as usize]
 }
 
-fn cost_word(net: &[u32], sender: u32, receiver: u32) -> u32
-    requires { ⌜ length (now net) ≡ wordCount ⌝ }
-    requires { ⌜ Node (now net) sender ⌝ }
-    requires { ⌜ Node (now net) receiver ⌝ }
-    ensures { λ r. ⌜ r ≡ view (now (net .entry)) .cost sender receiver ⌝ }
+// The word of a pair among those from a place on; 0 for other numbers.
+fn pair_word(net: &Network, from: usize, sender: u32, receiver: u32) -> u32
+    requires { ⌜ from ≤ heldLists ⌝ }
+    ensures { λ r. ⌜ r ≡ pairWord (now (net .entry)) from sender receiver ⌝ }
 {
-    net[COSTS + (receiver as usize * 32 + sender as usize)]
+    if network::MAX_NODES <= sender {
+        return 0;
+    }
+    if network::MAX_NODES <= receiver {
+        return 0;
+    }
+    net[from + (receiver as usize * 32 + sender as usize)]
 }
 
-// What the words hold of a pair of 32 nodes, whatever n is: the next two calls. For two nodes below n they answer what `arc_cost` and `held` do; n is
-// not read, so that a caller that keeps to nodes below n does not have it read for each pair. For other nodes they answer what no other call decides.
-
-// The cost of the pair.
-pub fn pair_cost(net: &Network, sender: u32, receiver: u32) -> CostRead
-    ensures { λ r. ⌜ costMeans r ≡ readCost (wide (now (net .entry))) sender receiver ⌝ }
+// The cost of the pair's arc, where there is one.
+pub fn cost_word(net: &Network, sender: u32, receiver: u32) -> u32
+    ensures { λ r. ⌜ r ≡ costWord (now (net .entry)) sender receiver ⌝ }
 {
-    if faults::pair_fault(network::MAX_NODES, sender, receiver) {
-        return CostRead { number: 3, cost: 0 };
-    }
-    CostRead {
-        number: 0,
-        cost: net[COSTS + (receiver as usize * 32 + sender as usize)],
-    }
+    pair_word(net, COSTS, sender, receiver) % 65536 + 1
 }
 
-// The report of the pair.
-pub fn pair_held(net: &Network, sender: u32, receiver: u32) -> HeldRead
-    ensures { λ r. ⌜ heldMeans r ≡ readHeld (wide (now (net .entry))) sender receiver ⌝ }
+// The label of the report that it holds, and its list, 0 where that report is empty.
+pub fn held_label_word(net: &Network, sender: u32, receiver: u32) -> u32
+    ensures { λ r. ⌜ r ≡ heldLabelWord (now (net .entry)) sender receiver ⌝ }
 {
-    if faults::pair_fault(network::MAX_NODES, sender, receiver) {
-        return HeldRead::Refused;
-    }
-    let at = receiver as usize * 32 + sender as usize;
-    let list = net[HELD_LISTS + at];
-    if list == 0 {
-        return HeldRead::Empty;
-    }
-    HeldRead::Report {
-        label: net[HELD_LABELS + at],
-        list: list,
-    }
+    pair_word(net, HELD_LABELS, sender, receiver)
+}
+
+pub fn held_list_word(net: &Network, sender: u32, receiver: u32) -> u32
+    ensures { λ r. ⌜ r ≡ heldListWord (now (net .entry)) sender receiver ⌝ }
+{
+    pair_word(net, HELD_LISTS, sender, receiver)
 }
 
 // The cost of the arc from sender to receiver.
@@ -277,7 +334,13 @@ pub fn arc_cost(net: &Network, sender: u32, receiver: u32) -> CostRead
     if faults::pair_fault(nodes(net), sender, receiver) {
         return CostRead { number: 3, cost: 0 };
     }
-    pair_cost(net, sender, receiver)
+    if ancestors::listed(net[ARCS + receiver as usize], sender) {
+        return CostRead {
+            number: 0,
+            cost: cost_word(net, sender, receiver),
+        };
+    }
+    CostRead { number: 0, cost: 0 }
 }
 
 // The report that the arc from sender to receiver holds.
@@ -287,7 +350,17 @@ pub fn held(net: &Network, sender: u32, receiver: u32) -> HeldRead
     if faults::pair_fault(nodes(net), sender, receiver) {
         return HeldRead::Refused;
     }
-    pair_held(net, sender, receiver)
+    if ancestors::listed(net[ARCS + receiver as usize], sender) {
+        let list = held_list_word(net, sender, receiver);
+        if list == 0 {
+            return HeldRead::Empty;
+        }
+        return HeldRead::Report {
+            label: held_label_word(net, sender, receiver),
+            list: list,
+        };
+    }
+    HeldRead::Empty
 }
 
 // ---- placing
@@ -328,7 +401,8 @@ fn report_number(net: &Network, sender: u32, receiver: u32, label: u32, list: u3
     if faults::pair_fault(n, sender, receiver) {
         return 3;
     }
-    faults::report_fault(n, cost_word(net, sender, receiver), sender, label, list)
+    let read = arc_cost(net, sender, receiver);
+    faults::report_fault(n, read.cost, sender, label, list)
 }
 
 // Sets the report that an arc holds. Answers 0; 3 for a bad pair; then, of its form, 5 for a pair without an arc, 10 for the label, 12 for the list.
