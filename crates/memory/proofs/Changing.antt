@@ -17,11 +17,11 @@ use Rattle.network.specs.Faults.{maxCost, pairFault}
 use Rattle.network.specs.Network.{empty, Net, withCost, withHeld, outcome}
 use Rattle.network.specs.Change.{changed}
 use Rattle.network.specs.Words.{reportOf, costOf}
-use Rattle.network.proofs.FaultLaws.{pair-says}
 use Rattle.memory.specs.Layout.{wordCount, look, view, arcBits, arcCosts, heldLabels, heldLists}
+use Rattle.memory.specs.Inner.{Pair}
 use Rattle.memory.specs.Answers.{Leaves}
 use Rattle.memory.proofs.Store.{Has, present-in, arc-is, read-held, cost-none, store-arc, clear-arc}
-use Rattle.memory.proofs.Laws.{few, leaves-refused, leaves-accepted}
+use Rattle.memory.proofs.Laws.{leaves-refused, leaves-accepted}
 
 -- a cost stored less one
 cost-less-one : (c : ℕ) → 0 < c → c ≤ maxCost → costOf (c - 1) ≡ c
@@ -33,37 +33,34 @@ unfolding reportOf
 emptied true d l = refl
 emptied false d l = refl
 
-module _ (xs : List ℕ) (size : length xs ≡ wordCount) (s r : ℕ) (pair : pairFault (view xs .nodes) s r ≡ false) where
+module _ (xs : List ℕ) (size : length xs ≡ wordCount) (s r : ℕ) (pair : Pair xs s r) where
   abbrev at : ℕ
   at = r * 32 + s
 
   abbrev word : ℕ
   word = look xs (arcBits + r)
 
-  ends : (s < 32) × (r < 32)
-  ends = let p = pair-says (view xs .nodes) s r pair in (omega (arith, few xs), omega (arith, few xs))
-
   -- its bit is cleared
   pub removed-words : (w : ℕ) → w ≡ cond (ltb s 32) (cut word s) word → view (set xs (arcBits + r) w) ≡ changed (view xs) s r 0
   unfolding changed
   removed-words w e =
-      let q : w ≡ cut word s = e ∙ rw (lt-ltb s 32 (ends .0)) in
-      clear-arc xs size s r pair w (λ j d. ap (λ v. has v j) q ∙ has-cut-other word s j (λ k. d (sym k))) (ap (λ v. has v s) q ∙ has-cut-same word s)
+      let q : w ≡ cut word s = e ∙ rw (lt-ltb s 32 (pair .sender)) in
+      clear-arc xs size s r (pair .free) w (λ j d. ap (λ v. has v j) q ∙ has-cut-other word s j (λ k. d (sym k))) (ap (λ v. has v s) q ∙ has-cut-same word s)
 
   -- its bit is set, the list kept and the cost stored
   pub set-words : (c w l : ℕ) → 0 < c → c ≤ maxCost → w ≡ cond (ltb s 32) (put word s) word → l ≡ cond (has word s) (look xs (heldLists + at)) 0
       → view (set (set (set xs (heldLists + at) l) (arcBits + r) w) (arcCosts + at) (c - 1)) ≡ changed (view xs) s r c
   unfolding changed
   set-words c w l a b e k =
-      store-arc xs size s r pair w (c - 1) l (λ j d. ap (λ v. has v j) q ∙ has-put-other word s j (λ k. d (sym k))) (ap (λ v. has v s) q ∙ has-put-same word s)
+      store-arc xs size s r (pair .free) w (c - 1) l (λ j d. ap (λ v. has v j) q ∙ has-put-other word s j (λ k. d (sym k))) (ap (λ v. has v s) q ∙ has-put-same word s)
       ∙ rw (cost-less-one c a b) (ap (withHeld (withCost (view xs) s r c) s r) held)
     where
       q : w ≡ put word s
-      q = e ∙ rw (lt-ltb s 32 (ends .0))
+      q = e ∙ rw (lt-ltb s 32 (pair .sender))
 
       -- a new arc starts empty
       here : Has xs s r ≡ has word s
-      here = present-in (view xs .nodes) (look xs) s r pair
+      here = present-in (view xs .nodes) (look xs) s r (pair .free)
 
       old : (has word s ≡ true) ⊎ (has word s ≡ false) → cond (not (has word s)) empty (reportOf (look xs (heldLabels + at)) (look xs (heldLists + at))) ≡
           cond (eqb (view xs .cost s r) 0) empty (view xs .held s r)

@@ -4,10 +4,10 @@ use mathlib.Core.Path.{_≡_, refl, sym, ap, _∙_}
 use mathlib.Core.Bool.{Bool, true, false, cond, not, _&&_, and-false}
 use mathlib.Core.Logic.{_≢_}
 use mathlib.Core.List.{List}
-use Prim.Native.Nat.{ℕ, _+_, _*_, _^_, _<_, _≤_}
+use Prim.Native.Nat.{ℕ, _+_, _*_, _<_, _≤_}
 use native.Mathlib.Omega.{arith}
 use lib.Dec.{ltb}
-use lib.Bits.{bitAnd, and-le-l}
+use lib.Bits.{bitAnd, and-le-r}
 use borrow.Author.Tests.{lt-ltb, le-ltb, eq-eqb, ne-eqb}
 use Rattle.ancestors.specs.Ancestors.{has, own, hops}
 use Rattle.ancestors.proofs.Sets.{has-and, those-has, those-ext}
@@ -16,7 +16,7 @@ use Rattle.network.specs.Network.{Row, Net}
 use Rattle.network.specs.Round.{everyArc}
 use Rattle.network.specs.Arcs.{arcsTo, senders}
 use Rattle.network.specs.Words.{reportOf, costOf}
-use Rattle.network.proofs.Arcs.{senders-has}
+use Rattle.network.proofs.Arcs.{senders-has, senders-fit}
 use Rattle.network.proofs.FaultLaws.{node-free, node-bad, pair-says}
 use Rattle.memory.specs.Layout.{present, look, view, rowOf, pairWord, costWord, heldLabelWord, heldListWord, arcBits, arcCosts, heldLabels, heldLists, rowLabels, rowLists, rowPredecessors}
 use Rattle.memory.specs.Answers.{RowAnswer, rowHops, readRow, rowMeans, readArcs, arcsMeans, readCost, costMeans, readHeld, heldMeans}
@@ -127,10 +127,10 @@ both-ways false true = refl
 both-ways false false = refl
 
 -- the bits in range of the stored word are the arcs
-pub arcs-word : (xs : List ℕ) (n r : ℕ) → n ≡ view xs .nodes → look xs (arcBits + r) < 2 ^ 32 → bitAnd (look xs (arcBits + r)) (senders n r) ≡ arcsTo (view xs) r
+pub arcs-word : (xs : List ℕ) (n r : ℕ) → n ≡ view xs .nodes → bitAnd (look xs (arcBits + r)) (senders n r) ≡ arcsTo (view xs) r
 unfolding arcsTo everyArc present
-arcs-word xs n r is fits =
-    those-has 32 (bitAnd w (senders n r)) (omega (arith, and-le-l w (senders n r)))
+arcs-word xs n r is =
+    those-has 32 (bitAnd w (senders n r)) (omega (arith, and-le-r w (senders n r), senders-fit n r))
     ∙ those-ext (has (bitAnd w (senders n r))) _ 32
     (λ s h. has-and w (senders n r) s ∙ ap (_&&_ (has w s)) (senders-has n r s h ∙ ap (λ k. not (pairFault k s r)) is)
     ∙ both-ways (has w s) (not (pairFault (view xs .nodes) s r)) ∙ arc-is xs s r)

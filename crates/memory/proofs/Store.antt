@@ -17,7 +17,7 @@ use Rattle.network.specs.Faults.{maxNodes, pairFault}
 use Rattle.network.specs.Words.{reportOf, costOf}
 use Rattle.network.proofs.FaultLaws.{pair-says, sender-bad, receiver-bad}
 use Rattle.network.proofs.Effects.{same-net}
-use Rattle.memory.specs.Inner.{Node}
+use Rattle.memory.specs.Inner.{Pair}
 use Rattle.memory.specs.Layout.{wordCount, frameIn, word, present, atArc, rowOf, nodeRow, netOf, look, view, arcBits, arcCosts, heldLabels, heldLists, rowLabels, rowLists, rowPredecessors}
 use Rattle.memory.proofs.Laws.{few}
 
@@ -538,13 +538,11 @@ module _ (xs : List ℕ) (size : length xs ≡ wordCount) where
             go (inl q) = rw (eq-eqb a o q)
             go (inr q) = ap (λ w. cond (eqb a o) (root (own o)) w) (elsewhere a (λ k. q (k ∙ e)))
 
--- two nodes of a pair without a fault
-module _ (xs : List ℕ) (n s r : ℕ) (is : n ≡ view xs .nodes) (e : pairFault n s r ≡ false) where
-  pub sender-node : Node xs s
-  sender-node = let k = pair-says n s r e in record { below = omega arith; small = omega (arith, few xs) }
-
-  pub receiver-node : Node xs r
-  receiver-node = let k = pair-says n s r e in record { below = omega arith; small = omega (arith, few xs) }
+-- a pair without a fault
+pub pair-found : (xs : List ℕ) (n s r : ℕ) → n ≡ view xs .nodes → pairFault n s r ≡ false → Pair xs s r
+pair-found xs n s r is e =
+    let k = pair-says n s r e in
+    record { free = ap (λ m. pairFault m s r) (sym is) ∙ e; sender = omega (arith, few xs); receiver = omega (arith, few xs) }
 
 -- a pair's test on the number of nodes read is the test on the network's
 pub pair-tested : (xs : List ℕ) (n s r : ℕ) (b t : Bool) → n ≡ view xs .nodes → b ≡ pairFault n s r → b ≡ t → pairFault (view xs .nodes) s r ≡ t

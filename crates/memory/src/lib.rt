@@ -4,16 +4,16 @@
 // stood, but for `make_fresh`: refused or not, it makes the words give a fresh network, and says nothing of words that play no part in it. Of
 // the public functions only `list_word`, `cost_word`, `held_label_word` and `held_list_word` read such words. No public function has a precondition.
 ghost use mathlib.Core.Path.{_≡_};
-ghost use mathlib.Core.Bool.{false, cond};
+ghost use mathlib.Core.Bool.{cond};
 ghost use Prim.Native.Nat.{_<_, _≤_};
 ghost use lib.ListN.{length};
-ghost use Rattle.network.specs.Faults.{maxNodes, maxCost, pairFault};
+ghost use Rattle.network.specs.Faults.{maxNodes, maxCost};
 ghost use Rattle.network.specs.Network.{freshNet, freshOf};
 ghost use Rattle.network.specs.Arcs.{arcsTo, arcWords};
 ghost use Rattle.network.specs.Placing.{placeRowNumber, placeRowOf, placeReportNumber, placeReportOf};
 ghost use Rattle.network.specs.Change.{changed, changeOf, gradeOf};
 ghost use Rattle.memory.specs.Layout.{wordCount, heldLists, view, listWord, pairWord, costWord, heldLabelWord, heldListWord};
-ghost use Rattle.memory.specs.Inner.{Blank};
+ghost use Rattle.memory.specs.Inner.{Pair, Blank};
 ghost use Rattle.memory.specs.Answers.{Leaves, Starts, readRow, rowMeans, readArcs, arcsMeans, readCost, costMeans, readHeld, heldMeans};
 
 // Words for something of each node, and of each pair.
@@ -153,7 +153,7 @@ fn kept_list(present: bool, list: u32) -> u32
 
 fn remove_arc(net: &mut [u32], sender: u32, receiver: u32)
     requires { ⌜ length (now net) ≡ wordCount ⌝ }
-    requires { ⌜ pairFault (view (now net) .nodes) sender receiver ≡ false ⌝ }
+    requires { ⌜ Pair (now net) sender receiver ⌝ }
     ensures { λ _. ⌜ view (now (net .exit)) ≡ changed (view (now (net .entry))) sender receiver 0 ⌝ }
 {
     let of = ARCS + receiver as usize;
@@ -162,7 +162,7 @@ fn remove_arc(net: &mut [u32], sender: u32, receiver: u32)
 
 fn set_arc(net: &mut [u32], sender: u32, receiver: u32, cost: u32)
     requires { ⌜ length (now net) ≡ wordCount ⌝ }
-    requires { ⌜ pairFault (view (now net) .nodes) sender receiver ≡ false ⌝ }
+    requires { ⌜ Pair (now net) sender receiver ⌝ }
     requires { ⌜ 0 < cost ⌝ }
     requires { ⌜ cost ≤ maxCost ⌝ }
     ensures { λ _. ⌜ view (now (net .exit)) ≡ changed (view (now (net .entry))) sender receiver cost ⌝ }
@@ -177,7 +177,7 @@ fn set_arc(net: &mut [u32], sender: u32, receiver: u32, cost: u32)
 
 fn put_cost(net: &mut [u32], sender: u32, receiver: u32, cost: u32)
     requires { ⌜ length (now net) ≡ wordCount ⌝ }
-    requires { ⌜ pairFault (view (now net) .nodes) sender receiver ≡ false ⌝ }
+    requires { ⌜ Pair (now net) sender receiver ⌝ }
     requires { ⌜ cost ≤ maxCost ⌝ }
     ensures { λ _. ⌜ view (now (net .exit)) ≡ changed (view (now (net .entry))) sender receiver cost ⌝ }
 {

@@ -35,6 +35,10 @@ pub arcs-fit : (x : Net) (r : ℕ) → arcsTo x r < 2 ^ 32
 unfolding arcsTo
 arcs-fit x r = those-below (λ s. everyArc x s r) maxNodes
 
+pub senders-fit : (n r : ℕ) → senders n r < 2 ^ 32
+unfolding senders
+senders-fit n r = those-below (λ s. not (pairFault n s r)) maxNodes
+
 -- ---- the words of every node
 
 numbers-long : (f : ℕ → ℕ) (k d : ℕ) → length (numbers f k d) ≡ d
