@@ -18,7 +18,7 @@ use Rattle.ancestors.proofs.Laws.{ones-count}
 use Rattle.network.specs.Faults.{maxLabel}
 use Rattle.network.specs.Network.{none, via, empty, told}
 use Rattle.network.specs.Round.{offer, listOf, goesBefore, Winner, nobody, sender, against, winner, rowBy, choice}
-use Rattle.network.specs.Words.{reportOf, reports, costsOf, offersOf, onesOf, alike, offerBelow}
+use Rattle.network.specs.Words.{reportOf, costOf, reports, costsOf, offersOf, onesOf, alike, offerBelow}
 use Rattle.network.proofs.Offers.{nothing-sum, made, Before, Won, no-one, some-one, won, won-once}
 use Rattle.network.specs.declared.Offer.{Offer}
 use Rattle.network.specs.declared.Offer.the-variants.{Nothing, Sum}
@@ -94,11 +94,6 @@ list-of-words d l = go (eq-or-ne l 0)
     go (inl e) = rw e
     go (inr n) = rw (ne-eqb l 0 n)
 
--- the ones of a report in two words are the nodes of its list, counted
-pub ones-of-nodes : (labels lists : List ℕ) (s k : ℕ) → getD lists s 0 < 2 ^ 32 → k ≡ count (has (getD lists s 0)) 32 → k ≡ onesOf labels lists s
-ones-of-nodes labels lists s k fits e =
-    e ∙ sym (ones-count 32 (getD lists s 0) fits) ∙ ap ones (sym (list-of-words (getD labels s 0) (getD lists s 0)))
-
 -- an offer of two words is label plus cost
 sum-is : (y c d l v : ℕ) → offer y c (reportOf d l) ≡ Sum v → v ≡ d + c
 unfolding reportOf
@@ -112,16 +107,42 @@ sum-is y c d l v o =
 
 -- ---- the two loops
 
-module _ (costs labels lists : List ℕ) (y : ℕ) where
+module _ (arcs : ℕ) (costs labels lists : List ℕ) (y : ℕ) where
   abbrev f : ℕ → Offer
-  f = offersOf costs labels lists y
+  f = offersOf arcs costs labels lists y
 
   abbrev g : ℕ → ℕ
-  g = onesOf labels lists
+  g = onesOf arcs labels lists
 
   -- an offer is at most the largest label
   small : (s v : ℕ) → f s ≡ Sum v → v ≤ maxLabel
-  small s v o = made y (costsOf costs s) (reports labels lists s) v o .fits
+  small s v o = made y (costsOf arcs costs s) (reports arcs labels lists s) v o .fits
+
+  -- it comes over an arc, and is label plus cost
+  over-arc : (s v : ℕ) → f s ≡ Sum v → (has arcs s ≡ true) × (v ≡ getD labels s 0 + costOf (getD costs s 0))
+  over-arc s v o = go (bool-cases (has arcs s))
+    where
+      go : (has arcs s ≡ true) ⊎ (has arcs s ≡ false) → (has arcs s ≡ true) × (v ≡ getD labels s 0 + costOf (getD costs s 0))
+      go (inl t) = (t, sum-is y (costOf (getD costs s 0)) (getD labels s 0) (getD lists s 0) v (rw t at o))
+      go (inr t) = let m = made y 0 empty v (rw t at o) in let q : empty ≡ told (m .label) (m .list) = m .is in clash cc
+
+  -- the list of a report over an arc
+  list-over-arc : (s : ℕ) → has arcs s ≡ true → listOf (reports arcs labels lists s) ≡ getD lists s 0
+  list-over-arc s h = rw h (list-of-words (getD labels s 0) (getD lists s 0))
+
+  -- the ones of a report over an arc are the nodes of its list, counted
+  pub ones-of-nodes : (s k : ℕ) → has arcs s ≡ true → getD lists s 0 < 2 ^ 32 → k ≡ count (has (getD lists s 0)) 32 → k ≡ g s
+  ones-of-nodes s k h fits e = e ∙ sym (ones-count 32 (getD lists s 0) fits) ∙ ap ones (sym (list-over-arc s h))
+
+  -- an offer below a limit comes over an arc, and so does a winner's
+  pub below-arc : (m s v : ℕ) → offerBelow m (f s) ≡ Sum v → has arcs s ≡ true
+  below-arc m s v h = over-arc s v (below-sum m (f s) v h .0) .0
+
+  pub won-arc : (c : ℕ → ℕ) (n b p : ℕ) → winner f c n ≡ sender p b → has arcs p ≡ true
+  won-arc c n b p e = go (subst (Won f c n) e (won f c n))
+    where
+      go : Won f c n (sender p b) → has arcs p ≡ true
+      go (some-one below its low) = over-arc p b its .0
 
   -- no sender after p and before s offers b or less
   abbrev pub Alone : ℕ → ℕ → ℕ → Type 0
@@ -152,14 +173,14 @@ module _ (costs labels lists : List ℕ) (y : ℕ) where
         (winner-takes f alike s b p e v (o .0) k (λ _. before-lesser v 0 b 0 (o .1)), k)
 
   -- passed with another sum than b, it leaves p alone
-  pub alone-pass : (s b p : ℕ) → Alone b p s → offerBelow b (f s) ≡ Nothing → getD labels s 0 + costsOf costs s ≢ b → Alone b p (s + 1)
+  pub alone-pass : (s b p : ℕ) → Alone b p s → offerBelow b (f s) ≡ Nothing → getD labels s 0 + costOf (getD costs s 0) ≢ b → Alone b p (s + 1)
   alone-pass s b p before h apart r v after below o = go (eq-or-ne r s)
     where
       last : f s ≡ Sum v → (f s ≡ Nothing) ⊎ ((u : ℕ) × (f s ≡ Sum u) × (b ≤ u)) → b < v
       last q (inl n) = nothing-sum (f s) n q
       last q (inr (u, t, k)) =
           let same : u ≡ v = cc in
-          let total : v ≡ getD labels s 0 + costsOf costs s = sum-is y (costsOf costs s) (getD labels s 0) (getD lists s 0) v q in
+          let total = over-arc s v q .1 in
           omega (arith, apart)
 
       go : (r ≡ s) ⊎ (r ≢ s) → b < v
@@ -248,35 +269,51 @@ module _ (costs labels lists : List ℕ) (y : ℕ) where
 
   -- no offer after the first loop, and the row of the winner
   pub choice-none : (b p : ℕ) → winner f alike (length costs) ≡ winnerOf b p → maxLabel < b →
-      choice (length costs) (costsOf costs) (reports labels lists) y ≡ none
+      choice (length costs) (costsOf arcs costs) (reports arcs labels lists) y ≡ none
   unfolding choice rowBy winnerOf
   choice-none b p w h =
       go (subst (Won f alike (length costs)) (w ∙ rw (lt-leb b maxLabel h)) (won f alike (length costs))) (winner f g (length costs))
       (won f g (length costs))
     where
-      go : Won f alike (length costs) nobody → (v : Winner) → Won f g (length costs) v → rowBy y (reports labels lists) v ≡ none
+      go : Won f alike (length costs) nobody → (v : Winner) → Won f g (length costs) v → rowBy y (reports arcs labels lists) v ≡ none
       go (no-one none-offers) nobody e = refl
       go (no-one none-offers) (sender r u) (some-one below its low) = nothing-sum (f r) (none-offers r below) its
 
   pub choice-some : (b p : ℕ) → winner f g (length costs) ≡ sender p b →
-      choice (length costs) (costsOf costs) (reports labels lists) y ≡ via b p (put (getD lists p 0) y)
+      choice (length costs) (costsOf arcs costs) (reports arcs labels lists) y ≡ via b p (put (getD lists p 0) y)
   unfolding choice rowBy
-  choice-some b p w = rw w (ap (λ l. via b p (put l y)) (list-of-words (getD labels p 0) (getD lists p 0)))
+  choice-some b p w = rw w (ap (λ l. via b p (put l y)) (list-over-arc p (won-arc g (length costs) b p w)))
 
 -- what the words of a winner stand for
 pub winner-is : (b p : ℕ) → b ≤ maxLabel → winnerOf b p ≡ sender p b
 unfolding winnerOf
 winner-is b p h = rw (le-leb b maxLabel h)
 
--- ---- an offer below a limit, from two words
+-- ---- an offer below a limit, from words
 
 -- case by case; with a limit of at most one more than the largest label a sum below it is an offer
-module _ (y c d l m : ℕ) where
-  pub offer-empty : l ≡ 0 → Nothing ≡ offerBelow m (offer y c (reportOf d l))
-  unfolding offer reportOf offerBelow
-  offer-empty e = rw (eq-eqb l 0 e)
+module _ (arcs s y c d l m : ℕ) where
+  -- the words make the offer o
+  abbrev Makes : Offer → Type 0
+  Makes o = o ≡ offerBelow m (offer y (cond (has arcs s) c 0) (cond (has arcs s) (reportOf d l) empty))
 
-  pub offer-large : m ≤ d + c → Nothing ≡ offerBelow m (offer y c (reportOf d l))
+  pub offer-absent : has arcs s ≡ false → Makes Nothing
+  unfolding offer offerBelow
+  offer-absent e = rw e
+
+  -- what makes nothing over an arc makes nothing
+  offer-either : Nothing ≡ offerBelow m (offer y c (reportOf d l)) → Makes Nothing
+  offer-either e = go (bool-cases (has arcs s))
+    where
+      go : (has arcs s ≡ true) ⊎ (has arcs s ≡ false) → Makes Nothing
+      go (inl t) = rw t e
+      go (inr t) = offer-absent t
+
+  pub offer-empty : l ≡ 0 → Makes Nothing
+  unfolding offer reportOf offerBelow
+  offer-empty e = offer-either (rw (eq-eqb l 0 e))
+
+  pub offer-large : m ≤ d + c → Makes Nothing
   unfolding offer reportOf offerBelow
   offer-large h = go (eq-or-ne l 0)
     where
@@ -284,15 +321,15 @@ module _ (y c d l m : ℕ) where
       dear true = refl
       dear false = rw (le-ltb (d + c) m h)
 
-      go : (l ≡ 0) ⊎ (l ≢ 0) → Nothing ≡ offerBelow m (offer y c (cond (eqb l 0) empty (told d l)))
+      go : (l ≡ 0) ⊎ (l ≢ 0) → Makes Nothing
       go (inl e) = offer-empty e
-      go (inr e) = rw (ne-eqb l 0 e) (dear (has l y || ltb maxLabel (d + c)))
+      go (inr e) = offer-either (rw (ne-eqb l 0 e) (dear (has l y || ltb maxLabel (d + c))))
 
   module _ (n : l ≢ 0) where
-    pub offer-listed : has l y ≡ true → Nothing ≡ offerBelow m (offer y c (reportOf d l))
+    pub offer-listed : has l y ≡ true → Makes Nothing
     unfolding offer reportOf offerBelow
-    offer-listed h = rw (ne-eqb l 0 n, h)
+    offer-listed h = offer-either (rw (ne-eqb l 0 n, h))
 
-    pub offer-sum : has l y ≡ false → m ≤ maxLabel + 1 → d + c < m → Sum (d + c) ≡ offerBelow m (offer y c (reportOf d l))
+    pub offer-sum : has l y ≡ false → has arcs s ≡ true → m ≤ maxLabel + 1 → d + c < m → Makes (Sum (d + c))
     unfolding offer reportOf offerBelow
-    offer-sum a fits h = rw (ne-eqb l 0 n, a, le-ltb maxLabel (d + c) (omega arith), lt-ltb (d + c) m h)
+    offer-sum a t fits h = rw (t, ne-eqb l 0 n, a, le-ltb maxLabel (d + c) (omega arith), lt-ltb (d + c) m h)

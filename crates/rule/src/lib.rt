@@ -3,12 +3,14 @@
 // The crate `network` has document 01's definitions; the calls on a whole network are in `memory` and `routing`.
 // No public function has a precondition.
 ghost use mathlib.Core.Path.{_≡_};
-ghost use mathlib.Core.Bool.{_||_};
+ghost use mathlib.Core.Bool.{cond, _||_};
 ghost use Prim.Native.Nat.{_+_, _<_, _≤_};
 ghost use lib.ListN.{length};
+ghost use Rattle.ancestors.specs.Ancestors.{has};
 ghost use Rattle.network.specs.Faults.{maxLabel};
+ghost use Rattle.network.specs.Network.{empty};
 ghost use Rattle.network.specs.Round.{offer, sender, winner, choice};
-ghost use Rattle.network.specs.Words.{reportOf, reports, costsOf, offersOf, onesOf, alike, offerBelow, chosen, chooseOf, choiceMeans};
+ghost use Rattle.network.specs.Words.{reportOf, costOf, reports, costsOf, offersOf, onesOf, alike, offerBelow, chosen, chooseOf, choiceMeans};
 use network::Choice;
 use network::Offer;
 
@@ -25,18 +27,26 @@ fn wide(x: u32) -> u64
     x as u64
 }
 
-// Label plus cost, which may not fit 32 bits.
+// Label plus the cost of a word, which may not fit 32 bits.
 fn total(label: u32, cost: u32) -> u64
-    ensures { λ r. ⌜ r ≡ label + cost ⌝ }
+    ensures { λ r. ⌜ r ≡ label + costOf cost ⌝ }
 {
-    wide(label) + wide(cost)
+    wide(label) + wide(cost % 65536) + 1
 }
 
-// The offer of a report, given as two words, over an arc of this cost, if it is below a limit. The sum is tested first: where it is too large the
-// list need not be read.
-fn offer_below(label: u32, list: u32, cost: u32, receiver: u32, limit: u32) -> Offer
+// The offer of a sender's report, given as two words, over an arc whose cost is given as a word, if it is below a limit. The sum is tested first:
+// where it is too large neither the list nor the arc's bit need be read.
+fn offer_below(
+    arcs: u32,
+    sender: u32,
+    label: u32,
+    list: u32,
+    cost: u32,
+    receiver: u32,
+    limit: u32,
+) -> Offer
     requires { ⌜ limit ≤ maxLabel + 1 ⌝ }
-    ensures { λ r. ⌜ r ≡ offerBelow limit (offer receiver cost (reportOf label list)) ⌝ }
+    ensures { λ r. ⌜ r ≡ offerBelow limit (offer receiver (cond (has arcs sender) (costOf cost) 0) (cond (has arcs sender) (reportOf label list) empty)) ⌝ }
 {
     let sum = total(label, cost);
     if wide(limit) <= sum {
@@ -48,11 +58,15 @@ fn offer_below(label: u32, list: u32, cost: u32, receiver: u32, limit: u32) -> O
     if ancestors::listed(list, receiver) {
         return Offer::Nothing;
     }
-    Offer::Sum(sum as u32)
+    if ancestors::listed(arcs, sender) {
+        return Offer::Sum(sum as u32);
+    }
+    Offer::Nothing
 }
 
 // Of the senders that offer the least sum, the first being given, the one of fewest ones, and then the lowest.
 fn fewest_ones(
+    arcs: u32,
     costs: &[u32],
     labels: &[u32],
     lists: &[u32],
@@ -63,15 +77,23 @@ fn fewest_ones(
     requires { ⌜ length (now costs) ≤ 32 ⌝ }
     requires { ⌜ length (now labels) ≡ length (now costs) ⌝ }
     requires { ⌜ length (now lists) ≡ length (now costs) ⌝ }
-    requires { ⌜ winner (offersOf (now costs) (now labels) (now lists) receiver) alike (length (now costs)) ≡ sender first least ⌝ }
-    ensures { λ r. ⌜ winner (offersOf (now (costs .entry)) (now (labels .entry)) (now (lists .entry)) receiver) (onesOf (now (labels .entry)) (now (lists .entry))) (length (now (costs .entry))) ≡ sender r least ⌝ }
+    requires { ⌜ winner (offersOf arcs (now costs) (now labels) (now lists) receiver) alike (length (now costs)) ≡ sender first least ⌝ }
+    ensures { λ r. ⌜ winner (offersOf arcs (now (costs .entry)) (now (labels .entry)) (now (lists .entry)) receiver) (onesOf arcs (now (labels .entry)) (now (lists .entry))) (length (now (costs .entry))) ≡ sender r least ⌝ }
 {
     let n = costs.len();
     let mut from = first;
     let mut fewest = ancestors::count_nodes(lists[first]);
     for s in first + 1..n {
         let list = lists[s];
-        let Offer::Sum(_) = offer_below(labels[s], list, costs[s], receiver, least + 1) else {
+        let Offer::Sum(_) = offer_below(
+            arcs,
+            s as u32,
+            labels[s],
+            list,
+            costs[s],
+            receiver,
+            least + 1,
+        ) else {
             continue;
         };
         let nodes = ancestors::count_nodes(list);
@@ -84,12 +106,12 @@ fn fewest_ones(
 }
 
 // The least offer of the senders, of equals that of fewest ones, and then the lowest sender's. Ones are counted only if the least sum is met again.
-fn least_offer(costs: &[u32], labels: &[u32], lists: &[u32], receiver: u32) -> Choice
+fn least_offer(arcs: u32, costs: &[u32], labels: &[u32], lists: &[u32], receiver: u32) -> Choice
     requires { ⌜ length (now costs) ≤ 32 ⌝ }
     requires { ⌜ length (now labels) ≡ length (now costs) ⌝ }
     requires { ⌜ length (now lists) ≡ length (now costs) ⌝ }
     requires { ⌜ receiver < 32 ⌝ }
-    ensures { λ r. ⌜ choiceMeans r ≡ chosen (choice (length (now (costs .entry))) (costsOf (now (costs .entry))) (reports (now (labels .entry)) (now (lists .entry))) receiver) ⌝ }
+    ensures { λ r. ⌜ choiceMeans r ≡ chosen (choice (length (now (costs .entry))) (costsOf arcs (now (costs .entry))) (reports arcs (now (labels .entry)) (now (lists .entry))) receiver) ⌝ }
 {
     let n = costs.len();
     let mut least = network::MAX_LABEL + 1;
@@ -97,7 +119,15 @@ fn least_offer(costs: &[u32], labels: &[u32], lists: &[u32], receiver: u32) -> C
     let mut again = false;
     for s in 0..n {
         again = or(again, total(labels[s], costs[s]) == wide(least));
-        let Offer::Sum(sum) = offer_below(labels[s], lists[s], costs[s], receiver, least) else {
+        let Offer::Sum(sum) = offer_below(
+            arcs,
+            s as u32,
+            labels[s],
+            lists[s],
+            costs[s],
+            receiver,
+            least,
+        ) else {
             continue;
         };
         least = sum;
@@ -108,7 +138,7 @@ fn least_offer(costs: &[u32], labels: &[u32], lists: &[u32], receiver: u32) -> C
         return Choice::NoRoute;
     }
     if again {
-        from = fewest_ones(costs, labels, lists, receiver, least, from);
+        from = fewest_ones(arcs, costs, labels, lists, receiver, least, from);
     }
     Choice::Route {
         label: least,
@@ -117,9 +147,9 @@ fn least_offer(costs: &[u32], labels: &[u32], lists: &[u32], receiver: u32) -> C
     }
 }
 
-// The row that a receiver chooses from the reports that it holds and the present costs, by sender.
-pub fn choose(costs: &[u32], labels: &[u32], lists: &[u32], receiver: u32) -> Choice
-    ensures { λ r. ⌜ choiceMeans r ≡ chooseOf (now (costs .entry)) (now (labels .entry)) (now (lists .entry)) receiver ⌝ }
+// The row that a receiver chooses from its arcs as a word, the words of their costs and the reports that it holds, by sender.
+pub fn choose(arcs: u32, costs: &[u32], labels: &[u32], lists: &[u32], receiver: u32) -> Choice
+    ensures { λ r. ⌜ choiceMeans r ≡ chooseOf arcs (now (costs .entry)) (now (labels .entry)) (now (lists .entry)) receiver ⌝ }
 {
     let n = costs.len();
     if 32 < n {
@@ -134,5 +164,5 @@ pub fn choose(costs: &[u32], labels: &[u32], lists: &[u32], receiver: u32) -> Ch
     if network::MAX_NODES <= receiver {
         return Choice::Refused;
     }
-    least_offer(costs, labels, lists, receiver)
+    least_offer(arcs, costs, labels, lists, receiver)
 }

@@ -11,16 +11,16 @@ use denote.Ref.{now}
 use Rattle.network.specs.Round.{sender, winner}
 use Rattle.network.specs.Words.{offersOf, onesOf}
 use Rattle.network.proofs.Offers.{won-below}
-use Rattle.rule.proofs.Least.{ones-of-nodes, winnerOf, winner-is, least-fits, fewest-first, fewest-pass, fewest-take, fewest-leave}
+use Rattle.rule.proofs.Least.{below-arc, won-arc, ones-of-nodes, winnerOf, winner-is, least-fits, fewest-first, fewest-pass, fewest-take, fewest-leave}
 use Rattle.rule.proofs.fewest_ones.Statement.{statement}
 use Rattle.rule.proofs.fewest_ones.Tie as tie
 
 abbrev Inv-loop : tie.InvT-loop
-Inv-loop costs labels lists receiver least first n from₀ fewest₀ s₀ from fewest s =
-    (winner (offersOf costs labels lists receiver) (onesOf labels lists) s ≡ winnerOf least from) × (fewest ≡ onesOf labels lists from) × (s ≤ n)
+Inv-loop arcs costs labels lists receiver least first n from₀ fewest₀ s₀ from fewest s =
+    (winner (offersOf arcs costs labels lists receiver) (onesOf arcs labels lists) s ≡ winnerOf least from) × (fewest ≡ onesOf arcs labels lists from) × (s ≤ n)
 
 abbrev μ-loop : tie.MeasureT-loop
-μ-loop costs labels lists receiver least first n from₀ fewest₀ s₀ from fewest s = n - s
+μ-loop arcs costs labels lists receiver least first n from₀ fewest₀ s₀ from fewest s = n - s
 
 mul-count-nodes : tie.Need-mul-count-nodes Inv-loop μ-loop
 mul-count-nodes c = omega (arith, won-below _ _ _ _ _ (c .before .before .before .pre .1 .1 .1))
@@ -38,20 +38,21 @@ loop-holds c =
     let ds = now (a .labels) in
     let ls = now (a .lists) in
     let e = c .before .before .before .before .before .pre .1 .1 .1 in (
-      fewest-first xs ds ls (a .receiver) (length xs) (a .least) (a .first) e,
-      ones-of-nodes ds ls (a .first) _ (omega (arith, c .before .shared-slice-known4 .given (a .first))) (c .count-nodes .ensures),
+      fewest-first (a .arcs) xs ds ls (a .receiver) (length xs) (a .least) (a .first) e,
+      ones-of-nodes (a .arcs) xs ds ls (a .receiver) (a .first) _ (won-arc (a .arcs) xs ds ls (a .receiver) _ _ _ _ e)
+          (omega (arith, c .before .shared-slice-known4 .given (a .first))) (c .count-nodes .ensures),
       omega (arith, won-below _ _ _ _ _ e),
     )
 
 add-offer-below : tie.Need-add-offer-below Inv-loop μ-loop
 add-offer-below c =
     let a = c .before .before .before .before .before .before .before .before .before .before .args in
-    omega (arith, least-fits (now (a .costs)) (now (a .labels)) (now (a .lists)) (a .receiver) _ _ _ (c .before .before .before .before .before .before .before .before .before .before .pre .1 .1 .1))
+    omega (arith, least-fits (a .arcs) (now (a .costs)) (now (a .labels)) (now (a .lists)) (a .receiver) _ _ _ (c .before .before .before .before .before .before .before .before .before .before .pre .1 .1 .1))
 
 offer-below-requires : tie.Need-offer-below-requires Inv-loop μ-loop
 offer-below-requires c κs =
     let a = c .before .before .before .before .before .before .before .before .before .before .args in
-    omega (arith, least-fits (now (a .costs)) (now (a .labels)) (now (a .lists)) (a .receiver) _ _ _ (c .before .before .before .before .before .before .before .before .before .before .pre .1 .1 .1))
+    omega (arith, least-fits (a .arcs) (now (a .costs)) (now (a .labels)) (now (a .lists)) (a .receiver) _ _ _ (c .before .before .before .before .before .before .before .before .before .before .pre .1 .1 .1))
 
 loop-again : tie.Need-loop-again Inv-loop μ-loop
 loop-again c =
@@ -62,7 +63,7 @@ loop-again c =
     let ls = now (a .lists) in
     let e = c .before .before .before .before .before .before .before .before .before .before .before .before .before .pre .1 .1 .1 in
     let o = sym (c .before .before .offer-below .ensures) ∙ c .enum-told2 .given .1 in (
-      fewest-pass xs ds ls (a .receiver) (length xs) (a .least) (a .first) e (l .s) (l .from) (omega arith) (l .inv .0) o,
+      fewest-pass (a .arcs) xs ds ls (a .receiver) (length xs) (a .least) (a .first) e (l .s) (l .from) (omega arith) (l .inv .0) o,
       l .inv .1,
       omega arith,
     )
@@ -76,16 +77,18 @@ loop-again-2 c =
     let ls = now (a .lists) in
     let e = c .before .before .before .before .before .before .before .before .before .before .before .before .before .before .before .pre .1 .1 .1 in
     let o = sym (c .before .before .before .before .offer-below .ensures) ∙ c .before .before .enum-told .given .1 in
-    let nodes = ones-of-nodes ds ls (l .s) _ (omega (arith, c .before .before .before .before .before .before .before .shared-slice-known5 .given (l .s))) (c .before .count-nodes2 .ensures) in
+    let nodes =
+    ones-of-nodes (a .arcs) xs ds ls (a .receiver) (l .s) _ (below-arc (a .arcs) xs ds ls (a .receiver) _ _ _ o)
+    (omega (arith, c .before .before .before .before .before .before .before .shared-slice-known5 .given (l .s))) (c .before .count-nodes2 .ensures) in
     ⊎-elim
     (λ w. (
-      rw (w .1) (fewest-take xs ds ls (a .receiver) (length xs) (a .least) (a .first) e (l .s) (l .from) (omega arith) (l .inv .0) _ o
+      rw (w .1) (fewest-take (a .arcs) xs ds ls (a .receiver) (length xs) (a .least) (a .first) e (l .s) (l .from) (omega arith) (l .inv .0) _ o
           (omega (arith, nodes, l .inv .1, w .0 .taken))),
       w .2 ∙ nodes ∙ rw (w .1),
       omega arith,
     ))
     (λ w. (
-      rw (w .1) (fewest-leave xs ds ls (a .receiver) (length xs) (a .least) (a .first) e (l .s) (l .from) (omega arith) (l .inv .0) _ o
+      rw (w .1) (fewest-leave (a .arcs) xs ds ls (a .receiver) (length xs) (a .least) (a .first) e (l .s) (l .from) (omega arith) (l .inv .0) _ o
           (omega (arith, nodes, l .inv .1, w .0 .left))),
       w .2 ∙ l .inv .1 ∙ rw (w .1),
       omega arith,
@@ -101,8 +104,8 @@ returns c =
     let ls = now (a .lists) in
     let e = c .before .before .before .before .before .before .before .pre .1 .1 .1 in
     let all : l .s ≡ length xs = omega arith in
-    subst (λ k. winner (offersOf xs ds ls (a .receiver)) (onesOf ds ls) k ≡ sender (l .from) (a .least)) all
-    (l .inv .0 ∙ winner-is (a .least) (l .from) (least-fits xs ds ls (a .receiver) (length xs) (a .least) (a .first) e))
+    subst (λ k. winner (offersOf (a .arcs) xs ds ls (a .receiver)) (onesOf (a .arcs) ds ls) k ≡ sender (l .from) (a .least)) all
+    (l .inv .0 ∙ winner-is (a .least) (l .from) (least-fits (a .arcs) xs ds ls (a .receiver) (length xs) (a .least) (a .first) e))
 
 pub fewest-ones-spec : {M : Type 1} → statement M
 fewest-ones-spec =
@@ -115,6 +118,7 @@ fewest-ones-spec =
     (λ c κs. search needs)
     add-s
     loop-holds
+    (λ c. omega arith)
     (λ c. omega arith)
     (λ c. omega arith)
     (λ c. omega arith)

@@ -22,17 +22,17 @@ use Rattle.rule.proofs.least_offer.Statement.{statement}
 use Rattle.rule.proofs.least_offer.Tie as tie
 
 abbrev Inv-loop : tie.InvT-loop
-Inv-loop costs labels lists receiver n least₀ from₀ again₀ s₀ least from again s =
-    (winner (offersOf costs labels lists receiver) alike s ≡ winnerOf least from) × (least ≤ maxLabel + 1) × (s ≤ n) ×
-    (again ≡ false → Alone costs labels lists receiver least from s)
+Inv-loop arcs costs labels lists receiver n least₀ from₀ again₀ s₀ least from again s =
+    (winner (offersOf arcs costs labels lists receiver) alike s ≡ winnerOf least from) × (least ≤ maxLabel + 1) × (s ≤ n) ×
+    (again ≡ false → Alone arcs costs labels lists receiver least from s)
 
 abbrev μ-loop : tie.MeasureT-loop
-μ-loop costs labels lists receiver n least₀ from₀ again₀ s₀ least from again s = n - s
+μ-loop arcs costs labels lists receiver n least₀ from₀ again₀ s₀ least from again s = n - s
 
 loop-holds : tie.Need-loop-holds Inv-loop μ-loop
 loop-holds c =
     let a = c .before .before .before .args in
-    (first-none (now (a .costs)) (now (a .labels)) (now (a .lists)) (a .receiver), search needs, search needs, λ e r v after below o. absurd (omega arith))
+    (first-none (a .arcs) (now (a .costs)) (now (a .labels)) (now (a .lists)) (a .receiver), search needs, search needs, λ e r v after below o. absurd (omega arith))
 
 loop-again : tie.Need-loop-again Inv-loop μ-loop
 loop-again c =
@@ -42,12 +42,12 @@ loop-again c =
     let ds = now (a .labels) in
     let ls = now (a .lists) in
     let o = sym (c .before .before .offer-below .ensures) ∙ c .enum-told .given .1 in (
-      first-pass xs ds ls (a .receiver) (l .s) (l .least) (l .from) (l .inv .0) o,
+      first-pass (a .arcs) xs ds ls (a .receiver) (l .s) (l .least) (l .from) (l .inv .0) o,
       l .inv .1,
       omega arith,
       λ h.
           let k = or-neither (l .again) _ (sym (c .before .before .before .before .before .before .or .ensures) ∙ h) in
-          alone-pass xs ds ls (a .receiver) (l .s) (l .least) (l .from) (l .inv .3 (k .0)) o
+          alone-pass (a .arcs) xs ds ls (a .receiver) (l .s) (l .least) (l .from) (l .inv .3 (k .0)) o
           (λ q. eqb-false _ _ (k .1) (c .before .before .before .before .before .before .before .before .total .ensures ∙ q ∙ sym (c .before .before .before .before .before .before .before .wide .ensures))),
     )
 
@@ -59,7 +59,7 @@ loop-again-2 c =
     let ds = now (a .labels) in
     let ls = now (a .lists) in
     let o = sym (c .before .before .before .offer-below .ensures) ∙ c .before .sum .given .1 in
-    let t = first-take xs ds ls (a .receiver) (l .s) (l .least) (l .from) (l .inv .0) _ o in
+    let t = first-take (a .arcs) xs ds ls (a .receiver) (l .s) (l .least) (l .from) (l .inv .0) _ o in
     (t .0, omega (arith, t .1), omega arith, λ h r v after below q. absurd (omega arith))
 
 returns : tie.Need-returns Inv-loop μ-loop
@@ -73,14 +73,14 @@ returns c =
     let all : l .s ≡ length xs = omega arith in
     ap chosen
     (sym
-    (choice-none xs ds ls (a .receiver) (l .least) (l .from)
-    (subst (λ k. winner (offersOf xs ds ls (a .receiver)) alike k ≡ winnerOf (l .least) (l .from)) all (l .inv .0)) (c .if1 .taken)))
+    (choice-none (a .arcs) xs ds ls (a .receiver) (l .least) (l .from)
+    (subst (λ k. winner (offersOf (a .arcs) xs ds ls (a .receiver)) alike k ≡ winnerOf (l .least) (l .from)) all (l .inv .0)) (c .if1 .taken)))
 
 -- after the loop, where there is an offer
 first-found : (c : tie.Else1 Inv-loop μ-loop) →
     let a = c .before .before .before .before .before .before .args in
     let l = c .before .before .loop in
-    winner (offersOf (now (a .costs)) (now (a .labels)) (now (a .lists)) (a .receiver)) alike (length (now (a .costs))) ≡ sender (l .from) (l .least)
+    winner (offersOf (a .arcs) (now (a .costs)) (now (a .labels)) (now (a .lists)) (a .receiver)) alike (length (now (a .costs))) ≡ sender (l .from) (l .least)
 first-found c =
     let l = c .before .before .loop in
     let a = c .before .before .before .before .before .before .args in
@@ -88,7 +88,7 @@ first-found c =
     let ds = now (a .labels) in
     let ls = now (a .lists) in
     let all : l .s ≡ length xs = omega arith in
-    subst (λ k. winner (offersOf xs ds ls (a .receiver)) alike k ≡ sender (l .from) (l .least)) all
+    subst (λ k. winner (offersOf (a .arcs) xs ds ls (a .receiver)) alike k ≡ sender (l .from) (l .least)) all
     (l .inv .0 ∙ winner-is (l .least) (l .from) (c .if1 .left))
 
 fewest-ones-requires : tie.Need-fewest-ones-requires Inv-loop μ-loop
@@ -99,7 +99,7 @@ fewest-ones-requires c κs =
 -- the winner, whether or not the least sum was met again
 found : (c : tie.Joined2 Inv-loop μ-loop) →
     let a = c .before .before .before .before .before .before .before .args in
-    winner (offersOf (now (a .costs)) (now (a .labels)) (now (a .lists)) (a .receiver)) (onesOf (now (a .labels)) (now (a .lists))) (length (now (a .costs))) ≡ sender
+    winner (offersOf (a .arcs) (now (a .costs)) (now (a .labels)) (now (a .lists)) (a .receiver)) (onesOf (a .arcs) (now (a .labels)) (now (a .lists))) (length (now (a .costs))) ≡ sender
     (c .if2 .from) (c .before .before .before .loop .least)
 found c =
     let l = c .before .before .before .loop in
@@ -111,11 +111,11 @@ found c =
     ⊎-elim
     (λ w. rw (w .2) (w .1 .ensures))
     (λ w. rw (w .1)
-    (alone-wins xs ds ls (a .receiver) (length xs) (l .least) (l .from) (first-found (c .before))
-    (subst (λ k. Alone xs ds ls (a .receiver) (l .least) (l .from) k) all (l .inv .3 (w .0 .left)))))
+    (alone-wins (a .arcs) xs ds ls (a .receiver) (length xs) (l .least) (l .from) (first-found (c .before))
+    (subst (λ k. Alone (a .arcs) xs ds ls (a .receiver) (l .least) (l .from) k) all (l .inv .3 (w .0 .left)))))
     (c .if2 .came)
 
-cast-from : tie.Need-cast-t27 Inv-loop μ-loop
+cast-from : tie.Need-cast-t29 Inv-loop μ-loop
 cast-from c = omega (arith, won-below _ _ _ _ _ (found (c .before)), c .before .before .before .before .before .before .before .before .pre)
 
 mul-joined : tie.Need-mul-joined Inv-loop μ-loop
@@ -135,7 +135,7 @@ returns-2 c =
     let ls = now (a .lists) in
     let j : c .joined .result ≡ put (getD ls from 0) (a .receiver) = c .joined .ensures ∙ rw (lt-ltb (a .receiver) 32 (omega arith)) in
     ap (λ i. chosen (via (l .least) from i)) j
-    ∙ ap chosen (sym (choice-some xs ds ls (a .receiver) (l .least) from (found (c .before .before .before))))
+    ∙ ap chosen (sym (choice-some (a .arcs) xs ds ls (a .receiver) (l .least) from (found (c .before .before .before))))
 
 pub least-offer-spec : {M : Type 1} → statement M
 least-offer-spec =
@@ -152,6 +152,7 @@ least-offer-spec =
     (λ c κs. search needs)
     (λ c κs. search needs)
     (λ c κs. search needs)
+    (λ c. omega arith)
     (λ c. omega arith)
     (λ c. omega arith)
     (λ c. omega arith)
