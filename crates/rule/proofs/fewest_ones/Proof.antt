@@ -37,10 +37,10 @@ loop-holds c =
     let xs = now (a .costs) in
     let ds = now (a .labels) in
     let ls = now (a .lists) in
-    let e = c .before .before .before .before .before .pre .1 .1 .1 in (
+    let e = c .before .before .before .before .before .pre .1 .1 .1 in
+    let arc = won-arc (a .arcs) xs ds ls (a .receiver) _ _ _ _ e in (
       fewest-first (a .arcs) xs ds ls (a .receiver) (length xs) (a .least) (a .first) e,
-      ones-of-nodes (a .arcs) xs ds ls (a .receiver) (a .first) _ (won-arc (a .arcs) xs ds ls (a .receiver) _ _ _ _ e)
-          (omega (arith, c .before .shared-slice-known4 .given (a .first))) (c .count-nodes .ensures),
+      ones-of-nodes (a .arcs) xs ds ls (a .receiver) (a .first) _ arc (omega (arith, c .before .shared-slice-known4 .given (a .first))) (c .count-nodes .ensures),
       omega (arith, won-below _ _ _ _ _ e),
     )
 
@@ -77,9 +77,8 @@ loop-again-2 c =
     let ls = now (a .lists) in
     let e = c .before .before .before .before .before .before .before .before .before .before .before .before .before .before .before .pre .1 .1 .1 in
     let o = sym (c .before .before .before .before .offer-below .ensures) ∙ c .before .before .enum-told .given .1 in
-    let nodes =
-    ones-of-nodes (a .arcs) xs ds ls (a .receiver) (l .s) _ (below-arc (a .arcs) xs ds ls (a .receiver) _ _ _ o)
-    (omega (arith, c .before .before .before .before .before .before .before .shared-slice-known5 .given (l .s))) (c .before .count-nodes2 .ensures) in
+    let arc = below-arc (a .arcs) xs ds ls (a .receiver) _ _ _ o in
+    let nodes = ones-of-nodes (a .arcs) xs ds ls (a .receiver) (l .s) _ arc (omega (arith, c .before .before .before .before .before .before .before .shared-slice-known5 .given (l .s))) (c .before .count-nodes2 .ensures) in
     ⊎-elim
     (λ w. (
       rw (w .1) (fewest-take (a .arcs) xs ds ls (a .receiver) (length xs) (a .least) (a .first) e (l .s) (l .from) (omega arith) (l .inv .0) _ o
