@@ -1,9 +1,9 @@
-// Ancestor lists and other sets of nodes as 32-bit words: whether a node is listed, a list with a node more or less, the nodes that two lists share,
-// those below a number, how many nodes it has, and its hops.
+// Ancestor lists and other sets of nodes as 32-bit words: whether a node is listed, a list with a node more or less, its nodes below a number, whether
+// it has a node that another list has not, how many nodes it has, and its hops.
 //
 // No function has a precondition: a node above 31 is in no list and joins none.
 ghost use mathlib.Core.Path.{_≡_};
-ghost use mathlib.Core.Bool.{cond};
+ghost use mathlib.Core.Bool.{cond, not};
 ghost use Prim.Native.Nat.{_%_, _^_};
 ghost use lib.Dec.{ltb};
 ghost use Rattle.ancestors.specs.Ancestors.{has, put, cut, inside, hops, count};
@@ -48,11 +48,11 @@ pub fn below(list: u32, k: u32) -> u32
     list & ((1u32 << k) - 1)
 }
 
-// Whether every node of the list is in the other.
-pub fn covered(list: u32, other: u32) -> bool
-    ensures { λ r. ⌜ r ≡ inside list other ⌝ }
+// Whether a node of the list is not in the other.
+pub fn outside(list: u32, other: u32) -> bool
+    ensures { λ r. ⌜ r ≡ not (inside list other) ⌝ }
 {
-    list & other == list
+    list & other != list
 }
 
 // The number of nodes in the list.

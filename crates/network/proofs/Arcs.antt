@@ -60,42 +60,35 @@ pub arc-words-at : (x : Net) (r : ℕ) → r < maxNodes → getD (arcWords x) r 
 unfolding arcWords
 arc-words-at x r h = numbers-at (arcsTo x) 0 maxNodes r h ∙ ap (arcsTo x) (omega arith)
 
--- ---- marks tested by one comparison
-
--- a node of l outside of m
-outside-some : (l m : ℕ) (f : ℕ → Bool) → l < 2 ^ 32 → ((s : ℕ) → s < 32 → not (has m s) ≡ f s) → not (inside l m) ≡ some (λ s. has l s && f s) 32
-outside-some l m f fits e = go (bool-cases (inside l m))
-  where
-    apart : (i : ℕ) → i < 32 → has l i ≡ true → has m i ≡ false → (has l i && f i) ≡ true
-    apart i h a b = rw (a, ← e i h, b)
-
-    near : inside l m ≡ true → (i : ℕ) → i < 32 → (has l i ≡ true) ⊎ (has l i ≡ false) → (has l i && f i) ≡ false
-    near q i h (inl a) = rw (a, ← e i h, inside-has l m i q a)
-    near q i h (inr a) = rw a
-
-    go : (inside l m ≡ true) ⊎ (inside l m ≡ false) → not (inside l m) ≡ some (λ s. has l s && f s) 32
-    go (inl q) = rw q (sym (some-none _ 32 (λ i h. near q i h (bool-cases (has l i)))))
-    go (inr q) = let o = outside-find 32 l m fits q in rw q (sym (some-here _ 32 (o .0) (o .1) (apart (o .0) (o .1) (o .2) (o .3))))
-
-not-not : (b : Bool) → not (not b) ≡ b
-not-not true = refl
-not-not false = refl
-
--- a mark of r out of range
-pub stray-by-word : (n r w : ℕ) → w < 2 ^ 32 → not (inside w (senders n r)) ≡ some (λ s. has w s && pairFault n s r) 32
-stray-by-word n r w fits =
-    outside-some w (senders n r) (λ s. pairFault n s r) fits (λ s h. ap not (senders-has n r s h) ∙ not-not (pairFault n s r))
-
 -- a cost is positive or 0
 some-cost : (c : ℕ) → not (ltb 0 c) ≡ eqb c 0
 some-cost zero = refl
 some-cost (suc c) = rw (lt-ltb 0 (suc c) (omega arith), ne-eqb (suc c) 0 (λ e. omega arith))
 
--- a mark of r without an arc
-pub idle-by-word : (x : Net) (r w : ℕ) → w < 2 ^ 32 → not (inside w (arcsTo x r)) ≡ some (λ s. has w s && eqb (x .cost s r) 0) 32
+not-not : (b : Bool) → not (not b) ≡ b
+not-not true = refl
+not-not false = refl
+
+-- a bit outside of what is in range is a pair's fault, and one outside of the arcs has no cost
+pub stray-bit : (n r s : ℕ) → s < maxNodes → not (has (senders n r) s) ≡ pairFault n s r
+stray-bit n r s h = ap not (senders-has n r s h) ∙ not-not (pairFault n s r)
+
+pub idle-bit : (x : Net) (r s : ℕ) → s < maxNodes → not (has (arcsTo x r) s) ≡ eqb (x .cost s r) 0
 unfolding everyArc
-idle-by-word x r w fits =
-    outside-some w (arcsTo x r) (λ s. eqb (x .cost s r) 0) fits (λ s h. ap not (arcs-exact x r s h) ∙ some-cost (x .cost s r))
+idle-bit x r s h = ap not (arcs-exact x r s h) ∙ some-cost (x .cost s r)
+
+-- ---- a word tested by one comparison: some bit of it is outside of another
+
+pub outside-some : (l m : ℕ) → l < 2 ^ 32 → not (inside l m) ≡ some (λ s. has l s && not (has m s)) 32
+outside-some l m fits = go (bool-cases (inside l m))
+  where
+    near : inside l m ≡ true → (i : ℕ) → (has l i ≡ true) ⊎ (has l i ≡ false) → (has l i && not (has m i)) ≡ false
+    near q i (inl a) = rw (a, inside-has l m i q a)
+    near q i (inr a) = rw a
+
+    go : (inside l m ≡ true) ⊎ (inside l m ≡ false) → not (inside l m) ≡ some (λ s. has l s && not (has m s)) 32
+    go (inl q) = rw q (sym (some-none _ 32 (λ i _. near q i (bool-cases (has l i)))))
+    go (inr q) = let o = outside-find 32 l m fits q in rw q (sym (some-here _ 32 (o .0) (o .1) (rw (o .2, o .3))))
 
 -- ---- a full round
 

@@ -1,0 +1,58 @@
+-- What crates above may cite of arcs in words: the word of a receiver's arcs says which arcs are present, and the words of an arc what cost it has and
+-- what report it holds.
+-- Assumes nothing.
+use mathlib.Core.Path.{_≡_, sym, _∙_}
+use mathlib.Core.Bool.{true, false}
+use mathlib.Core.Logic.{_⊎_, inl, inr}
+use mathlib.Core.List.{List}
+use Prim.Native.Nat.{ℕ, _+_, _*_, _<_, _≤_}
+use native.Mathlib.Omega.{arith}
+use Rattle.ancestors.specs.Ancestors.{has}
+use Rattle.ancestors.proofs.Cases.{le-or-lt}
+use Rattle.ancestors.proofs.Laws.{has-beyond}
+use Rattle.network.specs.Faults.{maxNodes, pairFault}
+use Rattle.network.specs.Network.{empty}
+use Rattle.network.specs.Round.{everyArc}
+use Rattle.network.specs.Arcs.{arcsTo}
+use Rattle.network.specs.Words.{reportOf, costOf}
+use Rattle.network.proofs.Arcs.{arcs-exact, arcs-fit}
+use Rattle.network.proofs.FaultLaws.{pair-says}
+use Rattle.memory.specs.Layout.{look, view, pairWord, costWord, heldLabelWord, heldListWord, arcCosts, heldLabels, heldLists}
+use Rattle.memory.proofs.Laws.{few}
+use Rattle.memory.proofs.Store.{Has, present-pair, read-cost, read-held, cost-none, held-none, arc-is, arc-beyond}
+use Rattle.memory.proofs.Reading.{pair-word-in}
+
+module _ (xs : List ℕ) (s r : ℕ) where
+  -- bit s of the word of r's arcs
+  pub arc-bit : has (arcsTo (view xs) r) s ≡ Has xs s r
+  unfolding everyArc
+  arc-bit = go (le-or-lt maxNodes s)
+    where
+      go : (maxNodes ≤ s) ⊎ (s < maxNodes) → has (arcsTo (view xs) r) s ≡ Has xs s r
+      go (inl h) = has-beyond maxNodes (arcsTo (view xs) r) s (arcs-fit (view xs) r) h ∙ sym (arc-beyond xs s r (inl (omega (arith, few xs))))
+      go (inr h) = arcs-exact (view xs) r s h ∙ sym (arc-is xs s r)
+
+  -- where it is 1: the arc joins two nodes, and its words give its cost and its report
+  module _ (e : has (arcsTo (view xs) r) s ≡ true) where
+    here : Has xs s r ≡ true
+    here = sym arc-bit ∙ e
+
+    pub arc-pair : pairFault (view xs .nodes) s r ≡ false
+    arc-pair = present-pair (view xs .nodes) (look xs) s r here
+
+    word-is : (b : ℕ) → pairWord xs b s r ≡ look xs (b + (r * 32 + s))
+    word-is b = let p = pair-says (view xs .nodes) s r arc-pair in sym (pair-word-in xs b s r (omega (arith, few xs)) (omega (arith, few xs)))
+
+    pub arc-cost : costWord xs s r ≡ view xs .cost s r
+    arc-cost = (λ j. costOf (word-is arcCosts j)) ∙ read-cost xs s r here
+
+    pub arc-held : reportOf (heldLabelWord xs s r) (heldListWord xs s r) ≡ view xs .held s r
+    arc-held = (λ j. reportOf (word-is heldLabels j) (word-is heldLists j)) ∙ read-held xs s r here
+
+  -- where it is 0: no cost, and no report
+  module _ (e : has (arcsTo (view xs) r) s ≡ false) where
+    pub no-cost : view xs .cost s r ≡ 0
+    no-cost = cost-none xs s r (sym arc-bit ∙ e)
+
+    pub no-report : view xs .held s r ≡ empty
+    no-report = held-none xs s r (sym arc-bit ∙ e)
