@@ -242,24 +242,29 @@ module _ (xs : List ℕ) where
   unfolding view netOf frameIn
   read-first = refl
 
-  -- what the words of a pair with an arc say
+  -- what the words of a pair say
+  pub cost-by : (s r : ℕ) → cond (Has s r) (costOf (look xs (arcCosts + (r * 32 + s)))) 0 ≡ view xs .cost s r
+  unfolding view netOf frameIn atArc
+  cost-by s r = refl
+
+  pub held-by : (s r : ℕ) → cond (Has s r) (reportOf (look xs (heldLabels + (r * 32 + s))) (look xs (heldLists + (r * 32 + s)))) empty ≡ view xs .held s r
+  unfolding view netOf frameIn atArc
+  held-by s r = refl
+
+  -- of a pair with an arc
   pub read-cost : (s r : ℕ) → Has s r ≡ true → costOf (look xs (arcCosts + (r * 32 + s))) ≡ view xs .cost s r
-  unfolding view netOf frameIn
-  read-cost s r e = sym (at-arc nodes (look xs) s r _ 0 e)
+  read-cost s r e = rw e at (cost-by s r)
 
   pub read-held : (s r : ℕ) → Has s r ≡ true
       → reportOf (look xs (heldLabels + (r * 32 + s))) (look xs (heldLists + (r * 32 + s))) ≡ view xs .held s r
-  unfolding view netOf frameIn
-  read-held s r e = sym (at-arc nodes (look xs) s r _ empty e)
+  read-held s r e = rw e at (held-by s r)
 
   -- what lies at any other pair plays no part
   pub cost-none : (s r : ℕ) → Has s r ≡ false → view xs .cost s r ≡ 0
-  unfolding view netOf frameIn
-  cost-none s r e = at-none nodes (look xs) s r _ 0 e
+  cost-none s r e = sym (rw e at (cost-by s r))
 
   pub held-none : (s r : ℕ) → Has s r ≡ false → view xs .held s r ≡ empty
-  unfolding view netOf frameIn
-  held-none s r e = at-none nodes (look xs) s r _ empty e
+  held-none s r e = sym (rw e at (held-by s r))
 
   -- an arc is present exactly where its cost is not 0
   pub arc-is : (s r : ℕ) → Has s r ≡ ltb 0 (view xs .cost s r)
@@ -435,7 +440,6 @@ module _ (xs : List ℕ) (size : length xs ≡ wordCount) where
           ((other-place k₁ heldLists (heldLists + at) l a b (apart heldLists a b q ne)
           ∙ other-place f heldLists (heldLabels + at) d a b (after heldLists heldLabels a b (omega arith))) j))
 
-      -- of an arc
       pub store-report : Has xs s r ≡ true → view (set (set xs (heldLabels + at) d) (heldLists + at) l) ≡ withHeld (view xs) s r (reportOf d l)
       unfolding withHeld view netOf frameIn
       store-report arc =
@@ -446,18 +450,6 @@ module _ (xs : List ℕ) (size : length xs ≡ wordCount) where
           ∙ (λ j. reportOf ((other-place k₁ heldLabels (heldLists + at) l s r (λ e. omega arith) ∙ this-place f (heldLabels + at) d) j)
           (this-place k₁ (heldLists + at) l j)))
           reports-else)
-
-      -- of a pair without an arc
-      pub store-unread : Has xs s r ≡ false → view (set (set xs (heldLabels + at) d) (heldLists + at) l) ≡ view xs
-      unfolding view netOf frameIn
-      store-unread none =
-          gives-view stored-report ∙ same-net _ _ refl costs-same rows-same (λ a b. go a b (eq-or-ne a s) (eq-or-ne b r))
-        where
-          go : (a b : ℕ) → (a ≡ s) ⊎ (a ≢ s) → (b ≡ r) ⊎ (b ≢ r) → held-in n k₂ a b ≡ held-in n f a b
-          go a b (inl p) (inl q) =
-              at-none n k₂ a b _ empty (arcs-same a b ∙ ap₂ (present n f) p q ∙ none) ∙ sym (at-none n f a b _ empty (ap₂ (present n f) p q ∙ none))
-          go a b (inl p) (inr q) = reports-else a b (inr q)
-          go a b (inr p) q = reports-else a b (inl p)
 
   module _ (y d p l : ℕ) (hy : y < n) where
     abbrev g₁ : ℕ → ℕ

@@ -8,26 +8,23 @@ use Prim.Native.Nat.{ℕ, _+_, _*_, _<_, _≤_}
 use native.Mathlib.Omega.{arith}
 use lib.Dec.{eqb, ltb}
 use lib.ListN.{length, getD, set, length-set}
-use lib.Seq.{getD-set-same, getD-set-other}
+use lib.Seq.{getD-set-same, getD-set-other, set-getD}
 use borrow.Author.Tests.{lt-ltb, le-ltb, eq-eqb, ne-eqb}
 use Rattle.ancestors.specs.Ancestors.{has, own}
-use Rattle.ancestors.proofs.Cases.{le-or-lt, eq-or-ne, eqb-same, ltb-other}
+use Rattle.ancestors.proofs.Cases.{eq-or-ne, eqb-same, ltb-other}
 use Rattle.ancestors.proofs.Laws.{put-some}
 use Rattle.network.specs.Network.{none, root, via, Report, empty, told, Net, setPair, withHeld}
-use Rattle.network.specs.Round.{Marks, report, hear, everyArc}
+use Rattle.network.specs.Round.{Marks, report, hear, marked, everyArc}
 use Rattle.network.specs.Words.{reportOf}
-use Rattle.memory.specs.Layout.{wordCount, rowOf, look, view, arcCosts, heldLabels, heldLists, rowLabels, rowLists, rowPredecessors}
+use Rattle.memory.specs.Layout.{wordCount, rowOf, look, view, arcBits, heldLabels, heldLists, rowLabels, rowLists, rowPredecessors}
 use Rattle.memory.specs.Inner.{Node}
-use Rattle.routing.specs.Inner.{Nodes, Primed, Hears, oneMark, rowMarks, wordMarks, arcRow, arcMarks}
+use Rattle.routing.specs.Inner.{Nodes, Primed, Hears, OnArc, OnArcs, Marked, oneMark, rowMarks, wordMarks}
+use Rattle.network.proofs.Arcs.{hear-ext}
 use Rattle.network.proofs.Effects.{same-reports}
 use Rattle.memory.proofs.Laws.{few, read-origin}
-use Rattle.memory.proofs.Store.{cost-beyond, read-held, read-relay, store-report, store-origin}
+use Rattle.memory.proofs.Store.{Has, arc-is, present-pair, read-relay, store-report, store-origin}
 
 -- ---- laws of hearing
-
-pub hear-ext : (m m′ : Marks) (x : Net) → ((s r : ℕ) → m s r ≡ m′ s r) → hear m x ≡ hear m′ x
-unfolding hear
-hear-ext m m′ x e = same-reports x (λ s r. λ j. cond (e s r j) (report (x .row s)) (x .held s r))
 
 pub hear-none : (m : Marks) (x : Net) → ((s r : ℕ) → m s r ≡ false) → hear m x ≡ x
 unfolding hear
@@ -93,13 +90,9 @@ read-report xs primed s h = go (eq-or-ne s (view xs .origin))
     go (inr n) =
         sym (report-of (look xs (rowLabels + s)) (look xs (rowPredecessors + s)) (look xs (rowLists + s))) ∙ ap report (read-relay xs s h n)
 
-either-report : (t : Bool) (d d′ l l′ : ℕ) → reportOf (cond t d d′) (cond t l l′) ≡ cond t (reportOf d l) (reportOf d′ l′)
-either-report true d d′ l l′ = refl
-either-report false d d′ l l′ = refl
-
 -- a store past the rows leaves the origin's words
 primed-set : (xs ys : List ℕ) → view ys .nodes ≡ view xs .nodes → view ys .origin ≡ view xs .origin
-    → ((k : ℕ) → k < arcCosts → look ys k ≡ look xs k) → Primed xs → Primed ys
+    → ((k : ℕ) → k < arcBits → look ys k ≡ look xs k) → Primed xs → Primed ys
 primed-set xs ys n o e p =
     record {
       label = λ h. let i : view xs .origin < view xs .nodes = omega (arith, n, o) in ap (λ y. look ys (rowLabels + y)) o ∙ e
@@ -109,39 +102,55 @@ primed-set xs ys n o e p =
     }
 
 -- two stores hear one arc
-module _ (xs : List ℕ) (size : length xs ≡ wordCount) (primed : Primed xs) (s r : ℕ) (hs : s < view xs .nodes) (hr : r < view xs .nodes)
-    (t : Bool) (d l : ℕ) where
+module _ (xs : List ℕ) (size : length xs ≡ wordCount) (primed : Primed xs) (s r : ℕ) (hs : s < view xs .nodes) where
   abbrev at : ℕ
   at = r * 32 + s
 
-  abbrev ys : List ℕ
-  ys = set xs (heldLabels + at) d
+  abbrev stored : ℕ → ℕ → List ℕ
+  stored d l = set (set xs (heldLabels + at) d) (heldLists + at) l
 
-  pub hear-arc : d ≡ cond t (look xs (rowLabels + s)) (look xs (heldLabels + at)) → l ≡ cond t (look ys (rowLists + s)) (look ys (heldLists + at))
-      → Hears (set ys (heldLists + at) l) (hear (oneMark s r t) (view xs))
-  hear-arc p q =
+  -- a marked arc holds what its sender's row reports
+  heard : everyArc (view xs) s r ≡ true → (d l : ℕ) → d ≡ look xs (rowLabels + s) → l ≡ look (set xs (heldLabels + at) d) (rowLists + s)
+      → Hears (stored d l) (hear (oneMark s r true) (view xs))
+  unfolding everyArc
+  heard e d l p q =
       record {
-        net = heard;
-        primed = primed-set xs (set ys (heldLists + at) l) (ap (λ (x : Net). x .nodes) heard ∙ hear-nodes _ _)
-            (ap (λ (x : Net). x .origin) heard ∙ hear-origin _ _) rows primed;
+        net = net;
+        primed = primed-set xs (stored d l) (ap (λ (x : Net). x .nodes) net ∙ hear-nodes _ _) (ap (λ (x : Net). x .origin) net ∙ hear-origin _ _) rows primed;
       }
     where
-      l-is : l ≡ cond t (look xs (rowLists + s)) (look xs (heldLists + at))
-      l-is =
-          q ∙ (λ j. cond t (getD-set-other xs (heldLabels + at) (rowLists + s) d 0 (λ e. omega (arith, few xs)) j) (getD-set-other xs
-          (heldLabels + at) (heldLists + at) d 0 (λ e. omega arith) j))
+      arc : Has xs s r ≡ true
+      arc = arc-is xs s r ∙ e
 
-      new : reportOf d l ≡ cond t (report (view xs .row s)) (view xs .held s r)
-      new =
-          ap₂ reportOf p l-is
-          ∙ either-report t (look xs (rowLabels + s)) (look xs (heldLabels + at)) (look xs (rowLists + s)) (look xs (heldLists + at))
-          ∙ ap₂ (cond t) (read-report xs primed s hs) (read-held xs s r hs hr)
+      list : l ≡ look xs (rowLists + s)
+      list = q ∙ getD-set-other xs (heldLabels + at) (rowLists + s) d 0 (λ e. omega (arith, few xs))
 
-      heard : view (set ys (heldLists + at) l) ≡ hear (oneMark s r t) (view xs)
-      heard = store-report xs size s r hs hr d l ∙ ap (withHeld (view xs) s r) new ∙ hear-one (view xs) s r t
+      new : reportOf d l ≡ report (view xs .row s)
+      new = ap₂ reportOf p list ∙ read-report xs primed s hs
 
-      rows : (k : ℕ) → k < arcCosts → look (set ys (heldLists + at) l) k ≡ look xs k
-      rows k h = getD-set-other ys (heldLists + at) k l 0 (λ e. omega arith) ∙ getD-set-other xs (heldLabels + at) k d 0 (λ e. omega arith)
+      net : view (stored d l) ≡ hear (oneMark s r true) (view xs)
+      net =
+          store-report xs size s r (present-pair (view xs .nodes) (look xs) s r arc) d l arc ∙ ap (withHeld (view xs) s r) new ∙ hear-one (view xs) s r true
+
+      rows : (k : ℕ) → k < arcBits → look (stored d l) k ≡ look xs k
+      rows k h =
+          getD-set-other (set xs (heldLabels + at) d) (heldLists + at) k l 0 (λ e. omega arith) ∙ getD-set-other xs (heldLabels + at) k d 0 (λ e. omega arith)
+
+  -- an unmarked one keeps its words
+  unheard : (d l : ℕ) → d ≡ look xs (heldLabels + at) → l ≡ look (set xs (heldLabels + at) d) (heldLists + at)
+      → Hears (stored d l) (hear (oneMark s r false) (view xs))
+  unfolding oneMark
+  unheard d l p q =
+      let a : set xs (heldLabels + at) d ≡ xs = ap (set xs (heldLabels + at)) p ∙ set-getD xs (heldLabels + at) 0 in
+      let b : stored d l ≡ xs = (λ j. set (a j) (heldLists + at) ((q ∙ ap (λ ys. look ys (heldLists + at)) a) j)) ∙ set-getD xs (heldLists + at) 0 in
+      subst (λ ys. Hears ys (hear (oneMark s r false) (view xs))) (sym b)
+      (record { net = sym (hear-none _ (view xs) (λ a b. rw (and-false (eqb b r)) (and-false (eqb a s)))); primed = primed })
+
+  pub hear-arc : (t : Bool) (d l : ℕ) → OnArc xs s r t → d ≡ cond t (look xs (rowLabels + s)) (look xs (heldLabels + at))
+      → l ≡ cond t (look (set xs (heldLabels + at) d) (rowLists + s)) (look (set xs (heldLabels + at) d) (heldLists + at))
+      → Hears (stored d l) (hear (oneMark s r t) (view xs))
+  hear-arc true d l on p q = heard (on .arc refl) d l p q
+  hear-arc false d l on p q = unheard d l p q
 
 -- ---- loops
 
@@ -208,59 +217,25 @@ words-step ms n r a b =
     rows-step (λ a b. ltb a n && has (getD ms r 0) a) (λ a b. ltb a n && has (getD ms b 0) a) r a b
     (λ e. ap (λ y. ltb a n && has (getD ms y 0) a) (sym e))
 
-pub arc-row-none : (x : Net) (r a b : ℕ) → arcRow x r 0 a b ≡ false
-unfolding arcRow
-arc-row-none x r a b = rw (le-ltb a 0 (omega arith)) (and-false (eqb b r))
+-- ---- marks on arcs
 
-pub arc-row-step : (x : Net) (r k a b : ℕ) → (oneMark k r (ltb 0 (x .cost k r)) a b || arcRow x r k a b) ≡ arcRow x r (k + 1) a b
-unfolding arcRow oneMark
-arc-row-step x r k a b = go (eq-or-ne b r)
-  where
-    go : (b ≡ r) ⊎ (b ≢ r) → ((eqb a k && (eqb b r && ltb 0 (x .cost k r))) || (eqb b r && (ltb a k && ltb 0 (x .cost a b)))) ≡
-        (eqb b r && (ltb a (k + 1) && ltb 0 (x .cost a b)))
-    go (inl e) = rw e (senders-step (eqb r r) (λ s. ltb 0 (x .cost s r)) k a)
-    go (inr n) = rw (ne-eqb b r n, and-false (eqb a k))
+-- hearing changes no arc
+arc-kept : (m : Marks) (x : Net) (ys : List ℕ) (s r : ℕ) → Hears ys (hear m x) → everyArc (view ys) s r ≡ everyArc x s r
+unfolding everyArc
+arc-kept m x ys s r h = ap (λ (z : Net). ltb 0 (z .cost s r)) (h .net) ∙ ap (λ f. ltb 0 (f s r)) (hear-cost m x)
 
-arc-row-hear : (m : Marks) (x : Net) (r k a b : ℕ) → arcRow (hear m x) r k a b ≡ arcRow x r k a b
-unfolding arcRow hear
-arc-row-hear m x r k a b = refl
+-- a bit of a word that lies on arcs, a word of marks, and marks after some are heard
+pub bit-on : (m : Marks) (xs ys : List ℕ) (s r w : ℕ) → Hears ys (hear m (view xs)) → s < 32 → OnArcs xs r w → OnArc ys s r (has w s)
+bit-on m xs ys s r w h b on = record { arc = λ e. arc-kept m (view xs) ys s r h ∙ on .arc s b e }
 
-pub arcs-none : (x : Net) (a b : ℕ) → arcMarks x 0 a b ≡ false
-unfolding arcMarks
-arcs-none x a b = rw (le-ltb b 0 (omega arith))
+pub word-on : (m : Marks) (xs ys ms : List ℕ) (r : ℕ) → Hears ys (hear m (view xs)) → r < 32 → Marked xs ms → OnArcs ys r (getD ms r 0)
+unfolding marked
+word-on m xs ys ms r h b on =
+    record { arc = λ s k e. arc-kept m (view xs) ys s r h ∙ on .arc s r (rw (lt-ltb s 32 k, lt-ltb r 32 b) e) }
 
-module _ (xs : List ℕ) where
-  -- an arc's sender is a node
-  from-node : (a b : ℕ) → (ltb a (view xs .nodes) && ltb 0 (view xs .cost a b)) ≡ ltb 0 (view xs .cost a b)
-  from-node a b = go (le-or-lt (view xs .nodes) a)
-    where
-      go : (view xs .nodes ≤ a) ⊎ (a < view xs .nodes) → (ltb a (view xs .nodes) && ltb 0 (view xs .cost a b)) ≡ ltb 0 (view xs .cost a b)
-      go (inl h) = rw (cost-beyond xs a b (inl h), and-false (ltb a (view xs .nodes)))
-      go (inr h) = rw (lt-ltb a (view xs .nodes) h)
-
-  arcs-step : (r a b : ℕ) → (arcRow (view xs) r (view xs .nodes) a b || arcMarks (view xs) r a b) ≡ arcMarks (view xs) (r + 1) a b
-  unfolding arcRow arcMarks
-  arcs-step r a b =
-      rows-step (λ a b. ltb a (view xs .nodes) && ltb 0 (view xs .cost a b)) (λ a b. ltb 0 (view xs .cost a b)) r a b (λ e. from-node a b)
-
-  -- hearing the arcs of a further receiver
-  pub arcs-next : (ys zs : List ℕ) (r n : ℕ) → n ≡ view xs .nodes → view ys ≡ hear (arcMarks (view xs) r) (view xs)
-      → Hears zs (hear (arcRow (view ys) r n) (view ys)) → Hears zs (hear (arcMarks (view xs) (r + 1)) (view xs))
-  arcs-next ys zs r n e q h =
-      hears-next (arcMarks (view xs) r) (arcRow (view ys) r n) (arcMarks (view xs) (r + 1)) (view xs) ys zs q h
-      (λ a b. ap (λ t. t || arcMarks (view xs) r a b) (same a b) ∙ arcs-step r a b)
-    where
-      same : (a b : ℕ) → arcRow (view ys) r n a b ≡ arcRow (view xs) r (view xs .nodes) a b
-      same a b = ap₂ (λ z k. arcRow z r k a b) q e ∙ arc-row-hear (arcMarks (view xs) r) (view xs) r (view xs .nodes) a b
-
-  -- and so is its receiver
-  pub arcs-all : (a b : ℕ) → arcMarks (view xs) (view xs .nodes) a b ≡ everyArc (view xs) a b
-  unfolding arcMarks everyArc
-  arcs-all a b = go (le-or-lt (view xs .nodes) b)
-    where
-      go : (view xs .nodes ≤ b) ⊎ (b < view xs .nodes) → (ltb b (view xs .nodes) && ltb 0 (view xs .cost a b)) ≡ ltb 0 (view xs .cost a b)
-      go (inl h) = rw (cost-beyond xs a b (inr h), and-false (ltb b (view xs .nodes)))
-      go (inr h) = rw (lt-ltb b (view xs .nodes) h)
+pub marks-on : (xs ps ms : List ℕ) → Hears ps (view xs) → Marked xs ms → Marked ps ms
+unfolding everyArc
+marks-on xs ps ms h on = record { arc = λ s r e. ap (λ (z : Net). ltb 0 (z .cost s r)) (h .net) ∙ on .arc s r e }
 
 -- ---- the origin's words set
 module _ (xs : List ℕ) (size : length xs ≡ wordCount) (y l : ℕ) (e : y ≡ view xs .origin) (h : y < view xs .nodes) where

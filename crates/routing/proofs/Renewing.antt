@@ -1,6 +1,6 @@
 -- Choosing from the words of a receiver, and renewing row by row, come to the second half of a round.
 -- Assumes nothing.
-use mathlib.Core.Path.{_≡_, sym, ap, ap₂, _∙_}
+use mathlib.Core.Path.{_≡_, sym, ap, _∙_}
 use mathlib.Core.Bool.{cond, not, _&&_}
 use mathlib.Core.Logic.{_⊎_, inl, inr, _≢_}
 use mathlib.Core.List.{List}
@@ -10,20 +10,24 @@ use lib.Dec.{eqb, ltb}
 use lib.ListN.{length, getD, take, drop, length-take, length-drop}
 use lib.Seq.{getD-take, getD-drop}
 use borrow.Author.Tests.{lt-ltb, le-ltb, lt-leb, ne-eqb}
+use Rattle.ancestors.specs.Ancestors.{has, cut}
 use Rattle.ancestors.proofs.Cases.{eq-or-ne, eqb-same, ltb-other}
+use Rattle.ancestors.proofs.Sets.{has-cut-same, has-cut-other}
 use Rattle.ancestors.proofs.Laws.{put-some}
-use Rattle.network.specs.Network.{Row, via, Report, Net, setAt, withRow}
+use Rattle.network.specs.Faults.{pairFault}
+use Rattle.network.specs.Network.{Row, via, Report, empty, Net, setAt, withRow}
+use Rattle.network.proofs.FaultLaws.{pair-same, pair-free}
 use Rattle.network.specs.Round.{choice, renewTo, renew}
-use Rattle.network.specs.Words.{reports, costsOf, ChoiceAnswer, chosen, wordsFault, chooseOf, choiceMeans}
+use Rattle.network.specs.Words.{reportOf, costOf, reports, costsOf, ChoiceAnswer, chosen, wordsFault, chooseOf, choiceMeans}
 use Rattle.network.specs.declared.Choice.{Choice}
 use Rattle.network.specs.declared.Choice.the-variants.{Refused, NoRoute, Route}
 use Rattle.network.proofs.Choosing.{choice-ext, came}
-use Rattle.memory.specs.Layout.{wordCount, rowOf, look, view, arcCosts, heldLabels, heldLists}
+use Rattle.memory.specs.Layout.{wordCount, rowOf, look, view, arcBits, arcCosts, heldLabels, heldLists}
 use Rattle.memory.specs.Inner.{Node}
 use Rattle.routing.specs.Inner.{Nodes}
 use Rattle.network.proofs.Effects.{same-rows}
 use Rattle.memory.proofs.Laws.{few}
-use Rattle.memory.proofs.Store.{read-cost, read-held}
+use Rattle.memory.proofs.Store.{Has, present-in, present-out, cost-by, held-by}
 
 -- ---- the words of one receiver
 
@@ -39,7 +43,8 @@ module _ (xs : List ℕ) (c n : ℕ) (h : c + n ≤ length xs) where
   part-at s b = getD-take (c + n - c) (drop c xs) s 0 (omega arith) ∙ getD-drop c xs s 0
 
 -- y's choice from its words is its choice in the network
-module _ (xs : List ℕ) (size : length xs ≡ wordCount) (n y : ℕ) (is : n ≡ view xs .nodes) (below : y < view xs .nodes) where
+module _ (xs : List ℕ) (size : length xs ≡ wordCount) (n y : ℕ) (is : n ≡ view xs .nodes) (below : y < view xs .nodes) (arcs : ℕ)
+    (bits : arcs ≡ cond (ltb y 32) (cut (look xs (arcBits + y)) y) (look xs (arcBits + y))) where
   room : (b : ℕ) → b ≤ heldLists → b + y * 32 + n ≤ length xs
   room b h = omega (arith, few xs)
 
@@ -52,26 +57,43 @@ module _ (xs : List ℕ) (size : length xs ≡ wordCount) (n y : ℕ) (is : n �
   abbrev lists : List ℕ
   lists = part xs (heldLists + y * 32) n
 
-  cost-at : (s : ℕ) → s < n → costsOf costs s ≡ view xs .cost s y
-  cost-at s h = part-at xs (arcCosts + y * 32) n (room arcCosts (omega arith)) s h ∙ ap (look xs) (omega arith) ∙ read-cost xs s y (omega arith) below
-
-  held-at : (s : ℕ) → s < n → reports labels lists s ≡ view xs .held s y
-  held-at s h =
-      ap₂ (λ d l. reportsOf d l) (part-at xs (heldLabels + y * 32) n (room heldLabels (omega arith)) s h ∙ ap (look xs) (omega arith))
-      (part-at xs (heldLists + y * 32) n (room heldLists (omega arith)) s h ∙ ap (look xs) (omega arith))
-      ∙ read-held xs s y (omega arith) below
+  -- the word of y's arcs without its own bit says which of them are present
+  arc-at : (s : ℕ) → s < n → has arcs s ≡ Has xs s y
+  arc-at s h = ap (λ w. has w s) (bits ∙ rw (lt-ltb y 32 small)) ∙ go (eq-or-ne y s)
     where
-      reportsOf : ℕ → ℕ → Report
-      reportsOf = Rattle.network.specs.Words.reportOf
+      small : y < 32
+      small = omega (arith, few xs)
 
-  pub choose-words : chooseOf costs labels lists y ≡ chosen (choice n (λ s. view xs .cost s y) (λ s. view xs .held s y) y)
+      w : ℕ
+      w = look xs (arcBits + y)
+
+      go : (y ≡ s) ⊎ (y ≢ s) → has (cut w y) s ≡ Has xs s y
+      go (inl e) =
+          ap (has (cut w y)) (sym e) ∙ has-cut-same w y
+          ∙ sym (present-out (view xs .nodes) (look xs) s y (ap (λ k. pairFault (view xs .nodes) k y) (sym e) ∙ pair-same (view xs .nodes) y))
+      go (inr e) =
+          has-cut-other w y s e
+          ∙ sym (present-in (view xs .nodes) (look xs) s y (pair-free (view xs .nodes) s y (omega arith) below (λ q. e (sym q))))
+
+  -- the word of sender s in a part
+  word-at : (b : ℕ) → b ≤ heldLists → (s : ℕ) → s < n → getD (part xs (b + y * 32) n) s 0 ≡ look xs (b + (y * 32 + s))
+  word-at b k s h = part-at xs (b + y * 32) n (room b k) s h ∙ ap (look xs) (omega arith)
+
+  cost-at : (s : ℕ) → s < n → costsOf arcs costs s ≡ view xs .cost s y
+  cost-at s h = (λ j. cond (arc-at s h j) (costOf (word-at arcCosts (omega arith) s h j)) 0) ∙ cost-by xs s y
+
+  held-at : (s : ℕ) → s < n → reports arcs labels lists s ≡ view xs .held s y
+  held-at s h =
+      (λ j. cond (arc-at s h j) (reportOf (word-at heldLabels (omega arith) s h j) (word-at heldLists (omega arith) s h j)) empty) ∙ held-by xs s y
+
+  pub choose-words : chooseOf arcs costs labels lists y ≡ chosen (choice n (λ s. view xs .cost s y) (λ s. view xs .held s y) y)
   unfolding chooseOf wordsFault
   choose-words =
       let a = part-length xs (arcCosts + y * 32) n (room arcCosts (omega arith)) in
       let b = part-length xs (heldLabels + y * 32) n (room heldLabels (omega arith)) in
       let d = part-length xs (heldLists + y * 32) n (room heldLists (omega arith)) in
       rw (a, b, d, le-ltb 32 n (omega (arith, few xs)), eqb-same n, lt-leb 32 y (omega (arith, few xs)))
-      (ap chosen (choice-ext n (costsOf costs) (λ s. view xs .cost s y) (reports labels lists) (λ s. view xs .held s y) y cost-at held-at))
+      (ap chosen (choice-ext n (costsOf arcs costs) (λ s. view xs .cost s y) (reports arcs labels lists) (λ s. view xs .held s y) y cost-at held-at))
 
 -- ---- the words of a choice are those of the chosen row
 module _ (n : ℕ) (cost : ℕ → ℕ) (held : ℕ → Report) (y : ℕ) (r : Choice) (e : choiceMeans r ≡ chosen (choice n cost held y)) where

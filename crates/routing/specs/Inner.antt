@@ -1,15 +1,15 @@
 -- What the private functions do: the parts of a round.
 -- Assumes nothing.
 use mathlib.Core.Path.{_≡_}
-use mathlib.Core.Bool.{Bool, _&&_}
+use mathlib.Core.Bool.{Bool, true, not, _&&_}
 use mathlib.Core.List.{List}
 use Prim.Native.Nat.{ℕ, _+_, _<_, _≤_}
 use lib.Dec.{eqb, ltb}
 use lib.ListN.{getD}
 use Rattle.ancestors.specs.Ancestors.{has, own}
-use Rattle.network.specs.Faults.{pairFault}
 use Rattle.network.specs.Network.{Net}
-use Rattle.network.specs.Round.{Marks, some}
+use Rattle.network.specs.Round.{Marks, marked, some, everyArc}
+use Rattle.network.specs.Arcs.{senders}
 use Rattle.memory.specs.Layout.{look, view, rowLabels, rowLists}
 
 -- n is the number of nodes
@@ -27,6 +27,18 @@ pub record Hears (xs : List ℕ) (x : Net) : Type 0 where
   pub net : view xs ≡ x
   pub primed : Primed xs
 
+-- where t holds, the arc from s to r is present
+pub record OnArc (xs : List ℕ) (s r : ℕ) (t : Bool) : Type 0 where
+  pub arc : t ≡ true → everyArc (view xs) s r ≡ true
+
+-- every bit of the word w is an arc to r
+pub record OnArcs (xs : List ℕ) (r w : ℕ) : Type 0 where
+  pub arc : (s : ℕ) → s < 32 → has w s ≡ true → everyArc (view xs) s r ≡ true
+
+-- every mark lies on an arc
+pub record Marked (xs ms : List ℕ) : Type 0 where
+  pub arc : (s r : ℕ) → marked ms s r ≡ true → everyArc (view xs) s r ≡ true
+
 -- the pair s, r alone, where t holds
 unfoldable pub oneMark : ℕ → ℕ → Bool → Marks
 oneMark s r t a b = eqb a s && (eqb b r && t)
@@ -39,26 +51,14 @@ rowMarks r w k s y = eqb y r && (ltb s k && has w s)
 unfoldable pub wordMarks : List ℕ → ℕ → ℕ → Marks
 wordMarks ms n k s y = ltb y k && (ltb s n && has (getD ms y 0) s)
 
--- the arcs to the receiver r from the senders below k
-unfoldable pub arcRow : Net → ℕ → ℕ → Marks
-arcRow x r k s y = eqb y r && (ltb s k && ltb 0 (x .cost s y))
+-- a bit of the word w is not in the word m
+unfoldable pub outside : ℕ → ℕ → Bool
+outside w m = some (λ s. has w s && not (has m s)) 32
 
--- the arcs to the receivers below k
-unfoldable pub arcMarks : Net → ℕ → Marks
-arcMarks x k s y = ltb y k && ltb 0 (x .cost s y)
-
--- a mark of the receiver r is out of range
-unfoldable pub strayRow : ℕ → ℕ → ℕ → Bool
-strayRow n r w = some (λ s. has w s && pairFault n s r) 32
-
--- of a receiver below k
+-- a mark of a receiver below k is out of range
 unfoldable pub strayRows : ℕ → List ℕ → ℕ → Bool
-strayRows n ms k = some (λ r. strayRow n r (getD ms r 0)) k
+strayRows n ms k = some (λ r. outside (getD ms r 0) (senders n r)) k
 
--- a mark of the receiver r on a sender below k has no arc
-unfoldable pub idleRow : Net → ℕ → ℕ → ℕ → Bool
-idleRow x r w k = some (λ s. has w s && eqb (x .cost s r) 0) k
-
--- of a receiver below k, on any node
-unfoldable pub idleRows : Net → List ℕ → ℕ → Bool
-idleRows x ms k = some (λ r. idleRow x r (getD ms r 0) (x .nodes)) k
+-- a mark of a receiver below k is not in its word of arcs
+unfoldable pub idleRows : List ℕ → List ℕ → ℕ → Bool
+idleRows arcs ms k = some (λ r. outside (getD ms r 0) (getD arcs r 0)) k

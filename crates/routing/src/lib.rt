@@ -2,6 +2,7 @@
 //
 // Contracts go through `memory`'s `view` and hold for any words. A refused round leaves every word as it stood. No public function has a
 // precondition; the private ones ask for the number of words and for what their callers have tested.
+use memory::ARCS;
 use memory::COSTS;
 use memory::HELD_LABELS;
 use memory::HELD_LISTS;
@@ -13,17 +14,15 @@ use memory::ROW_PREDECESSORS;
 use network::Choice;
 ghost use mathlib.Core.Path.{_≡_};
 ghost use mathlib.Core.Logic.{_≢_};
-ghost use mathlib.Core.Bool.{_&&_, cond};
-ghost use Prim.Native.Nat.{_<_, _≤_};
+ghost use mathlib.Core.Bool.{cond};
 ghost use lib.ListN.{length};
-ghost use lib.Dec.{eqb, ltb};
 ghost use Rattle.network.specs.Network.{withRow};
-ghost use Rattle.network.specs.Round.{choice, hear, renew, roundOf, fullRoundOf, everyArc};
+ghost use Rattle.network.specs.Round.{choice, marked, hear, renew, round, roundOf, fullRoundOf};
 ghost use Rattle.network.specs.Words.{chosen, choiceMeans};
 ghost use Rattle.memory.specs.Layout.{wordCount, view, rowOf};
 ghost use Rattle.memory.specs.Inner.{Node};
 ghost use Rattle.memory.specs.Answers.{Leaves};
-ghost use Rattle.routing.specs.Inner.{Nodes, Primed, Hears, oneMark, rowMarks, wordMarks, arcRow, strayRow, strayRows, idleRow, idleRows};
+ghost use Rattle.routing.specs.Inner.{Nodes, Primed, Hears, OnArc, OnArcs, Marked, oneMark, rowMarks, wordMarks, outside, strayRows, idleRows};
 
 // ---- hearing
 
@@ -54,6 +53,7 @@ fn hear_arc(net: &mut [u32], sender: usize, receiver: usize, told: bool)
     requires { ⌜ Primed (now net) ⌝ }
     requires { ⌜ Node (now net) sender ⌝ }
     requires { ⌜ Node (now net) receiver ⌝ }
+    requires { ⌜ OnArc (now net) sender receiver told ⌝ }
     ensures { λ _. ⌜ Hears (now (net .exit)) (hear (oneMark sender receiver told) (view (now (net .entry)))) ⌝ }
 {
     let at = receiver * 32 + sender;
@@ -66,6 +66,7 @@ fn hear_row(net: &mut [u32], n: usize, receiver: usize, word: u32)
     requires { ⌜ Primed (now net) ⌝ }
     requires { ⌜ Nodes (now net) n ⌝ }
     requires { ⌜ Node (now net) receiver ⌝ }
+    requires { ⌜ OnArcs (now net) receiver word ⌝ }
     ensures { λ _. ⌜ Hears (now (net .exit)) (hear (rowMarks receiver word n) (view (now (net .entry)))) ⌝ }
 {
     for s in 0..n {
@@ -78,42 +79,11 @@ fn hear_marks(net: &mut [u32], n: usize, marks: &[u32])
     requires { ⌜ Primed (now net) ⌝ }
     requires { ⌜ Nodes (now net) n ⌝ }
     requires { ⌜ length (now marks) ≡ 32 ⌝ }
+    requires { ⌜ Marked (now net) (now marks) ⌝ }
     ensures { λ _. ⌜ Hears (now (net .exit)) (hear (wordMarks (now (marks .entry)) n n) (view (now (net .entry)))) ⌝ }
 {
     for r in 0..n {
         hear_row(net, n, r, marks[r]);
-    }
-}
-
-fn arc_at(net: &[u32], sender: usize, receiver: usize) -> bool
-    requires { ⌜ length (now net) ≡ wordCount ⌝ }
-    requires { ⌜ Node (now net) sender ⌝ }
-    requires { ⌜ Node (now net) receiver ⌝ }
-    ensures { λ b. ⌜ b ≡ ltb 0 (view (now (net .entry)) .cost sender receiver) ⌝ }
-{
-    0 < net[COSTS + (receiver * 32 + sender)]
-}
-
-fn hear_arc_row(net: &mut [u32], n: usize, receiver: usize)
-    requires { ⌜ length (now net) ≡ wordCount ⌝ }
-    requires { ⌜ Primed (now net) ⌝ }
-    requires { ⌜ Nodes (now net) n ⌝ }
-    requires { ⌜ Node (now net) receiver ⌝ }
-    ensures { λ _. ⌜ Hears (now (net .exit)) (hear (arcRow (view (now (net .entry))) receiver n) (view (now (net .entry)))) ⌝ }
-{
-    for s in 0..n {
-        hear_arc(net, s, receiver, arc_at(net, s, receiver));
-    }
-}
-
-fn hear_arcs(net: &mut [u32], n: usize)
-    requires { ⌜ length (now net) ≡ wordCount ⌝ }
-    requires { ⌜ Primed (now net) ⌝ }
-    requires { ⌜ Nodes (now net) n ⌝ }
-    ensures { λ _. ⌜ Hears (now (net .exit)) (hear (everyArc (view (now (net .entry)))) (view (now (net .entry)))) ⌝ }
-{
-    for r in 0..n {
-        hear_arc_row(net, n, r);
     }
 }
 
@@ -125,10 +95,12 @@ fn choose_row(net: &[u32], n: usize, receiver: usize) -> Choice
     requires { ⌜ Node (now net) receiver ⌝ }
     ensures { λ r. ⌜ choiceMeans r ≡ chosen (choice n (λ s. view (now (net .entry)) .cost s receiver) (λ s. view (now (net .entry)) .held s receiver) receiver) ⌝ }
 {
+    let arcs = ancestors::left_out(net[ARCS + receiver], receiver as u32);
     let c = COSTS + receiver * 32;
     let d = HELD_LABELS + receiver * 32;
     let l = HELD_LISTS + receiver * 32;
     rule::choose(
+        arcs,
         &net[c..c + n],
         &net[d..d + n],
         &net[l..l + n],
@@ -179,68 +151,49 @@ fn renew_rows(net: &mut [u32], n: usize)
     }
 }
 
-// ---- refusals
-
-// Whether a mark of the receiver is out of range.
-fn stray_row(n: u32, receiver: u32, word: u32) -> bool
-    requires { ⌜ n ≤ 32 ⌝ }
-    requires { ⌜ receiver < 32 ⌝ }
-    ensures { λ b. ⌜ b ≡ strayRow n receiver word ⌝ }
+// Hears the marks, and then gives every node but the origin a new row.
+fn advance(net: &mut [u32], n: usize, marks: &[u32])
+    requires { ⌜ length (now net) ≡ wordCount ⌝ }
+    requires { ⌜ Nodes (now net) n ⌝ }
+    requires { ⌜ length (now marks) ≡ 32 ⌝ }
+    requires { ⌜ Marked (now net) (now marks) ⌝ }
+    ensures { λ _. ⌜ view (now (net .exit)) ≡ round (marked (now (marks .entry))) (view (now (net .entry))) ⌝ }
 {
-    if n <= receiver {
-        return word != 0;
-    }
-    if ancestors::listed(word, receiver) {
-        return true;
-    }
-    faults::bit_beyond(n, word)
+    prime(net, n);
+    hear_marks(net, n, marks);
+    renew_rows(net, n);
 }
 
+// ---- refusals
+
+// Whether a receiver's word of marks has a bit that another word has not.
+fn outside(word: u32, other: u32) -> bool
+    ensures { λ b. ⌜ b ≡ outside word other ⌝ }
+{
+    ancestors::outside(word, other)
+}
+
+// Whether a mark is out of range.
 fn stray_marks(n: u32, marks: &[u32]) -> bool
-    requires { ⌜ n ≤ 32 ⌝ }
     requires { ⌜ length (now marks) ≡ 32 ⌝ }
     ensures { λ b. ⌜ b ≡ strayRows n (now (marks .entry)) 32 ⌝ }
 {
     let mut found = false;
     for r in 0u32..32 {
-        found = rule::or(found, stray_row(n, r, marks[r as usize]));
+        found = rule::or(found, outside(marks[r as usize], faults::senders(n, r)));
     }
     found
 }
 
-fn idle_mark(told: bool, cost: u32) -> bool
-    ensures { λ r. ⌜ r ≡ (told && eqb cost 0) ⌝ }
-{
-    told && cost == 0
-}
-
-// Whether a mark of the receiver has no arc.
-fn idle_row(net: &[u32], n: usize, receiver: usize, word: u32) -> bool
-    requires { ⌜ length (now net) ≡ wordCount ⌝ }
-    requires { ⌜ Nodes (now net) n ⌝ }
-    requires { ⌜ Node (now net) receiver ⌝ }
-    ensures { λ b. ⌜ b ≡ idleRow (view (now (net .entry))) receiver word n ⌝ }
-{
-    let base = COSTS + receiver * 32;
-    let mut found = false;
-    for s in 0..n {
-        found = rule::or(
-            found,
-            idle_mark(ancestors::listed(word, s as u32), net[base + s]),
-        );
-    }
-    found
-}
-
-fn idle_marks(net: &[u32], n: usize, marks: &[u32]) -> bool
-    requires { ⌜ length (now net) ≡ wordCount ⌝ }
-    requires { ⌜ Nodes (now net) n ⌝ }
+// Whether a mark has no arc.
+fn idle_marks(arcs: &[u32], marks: &[u32]) -> bool
+    requires { ⌜ length (now arcs) ≡ 32 ⌝ }
     requires { ⌜ length (now marks) ≡ 32 ⌝ }
-    ensures { λ b. ⌜ b ≡ idleRows (view (now (net .entry))) (now (marks .entry)) n ⌝ }
+    ensures { λ b. ⌜ b ≡ idleRows (now (arcs .entry)) (now (marks .entry)) 32 ⌝ }
 {
     let mut found = false;
-    for r in 0..n {
-        found = rule::or(found, idle_row(net, n, r, marks[r]));
+    for r in 0usize..32 {
+        found = rule::or(found, outside(marks[r], arcs[r]));
     }
     found
 }
@@ -259,23 +212,20 @@ pub fn round(net: &mut Network, marks: &[u32]) -> u8
     if stray_marks(n, marks) {
         return 3;
     }
-    let k = n as usize;
-    if idle_marks(net, k, marks) {
+    let arcs = memory::arc_words(net);
+    if idle_marks(&arcs, marks) {
         return 7;
     }
-    prime(net, k);
-    hear_marks(net, k, marks);
-    renew_rows(net, k);
+    advance(net, n as usize, marks);
     0
 }
 
-// A round with every arc heard. It is never refused: it answers 0.
+// A round with every arc heard: its marks are the arcs' words. It is never refused: it answers 0.
 pub fn full_round(net: &mut Network) -> u8
     ensures { λ k. ⌜ Leaves (fullRoundOf (view (now (net .entry)))) k (now (net .entry)) (now (net .exit)) ⌝ }
 {
-    let n = memory::nodes(net) as usize;
-    prime(net, n);
-    hear_arcs(net, n);
-    renew_rows(net, n);
+    let n = memory::nodes(net);
+    let arcs = memory::arc_words(net);
+    advance(net, n as usize, &arcs);
     0
 }

@@ -1,4 +1,4 @@
--- `routing::choose_row` meets its contract: the parts lent are the words of one receiver.
+-- `routing::choose_row` meets its contract: the word of arcs and the parts lent are the words of one receiver.
 -- Assumes nothing.
 use borrow.Author.Needs.{needs}
 use native.Mathlib.Omega.{arith}
@@ -10,14 +10,22 @@ use Rattle.routing.proofs.choose_row.Tie as tie
 
 returns : tie.Need-returns
 returns c =
-    let a = c .before .before .before .before .before .args in
-    let p = c .before .before .before .before .before .pre in
-    c .choose .ensures ∙ choose-words (now (a .net)) (p .0) (a .n) (a .receiver) (p .1 .0 .is) (p .1 .1 .below)
+    let b = c .before .before .before .before .before .before .before in
+    let a = b .args in
+    let p = b .pre in
+    let arcs = c .before .before .before .before .left-out in
+    c .choose .ensures
+    ∙ choose-words (now (a .net)) (p .0) (a .n) (a .receiver) (p .1 .0 .is) (p .1 .1 .below) (arcs .result) (arcs .ensures)
 
 pub choose-row-spec : {M : Type 1} → statement M
 choose-row-spec =
     tie.close
     (tie.spec
+    (λ c. omega arith)
+    (λ c. omega arith)
+    (λ c. omega arith)
+    (λ c. omega arith)
+    (λ c κs. search needs)
     (λ c. omega arith)
     (λ c. omega arith)
     (λ c. omega arith)

@@ -9,7 +9,7 @@ use denote.Ref.{now}
 use Rattle.network.specs.Round.{hear}
 use Rattle.memory.specs.Layout.{wordCount, view}
 use Rattle.routing.specs.Inner.{Hears, rowMarks, wordMarks}
-use Rattle.routing.proofs.Hearing.{hears-next, hears-first, words-none, words-step, node-kept, nodes-kept}
+use Rattle.routing.proofs.Hearing.{hears-next, hears-first, words-none, words-step, node-kept, nodes-kept, word-on}
 use Rattle.routing.proofs.hear_marks.Statement.{statement}
 use Rattle.routing.proofs.hear_marks.Tie as tie
 
@@ -45,8 +45,10 @@ hear-row-requires c κs =
         l .inv .0 .primed,
         (
           nodes-kept _ x _ (a .n) (l .inv .0) (p .1 .1 .0 .is),
-          node-kept _ x _ (l .r) (l .inv .0)
-              (omega (arith, p .1 .1 .0 .is)),
+          (
+            node-kept _ x _ (l .r) (l .inv .0) (omega (arith, p .1 .1 .0 .is)),
+            word-on _ (now (a .net)) (l .net) (now (a .marks)) (l .r) (l .inv .0) (omega (arith, p .1 .1 .0 .few)) (p .1 .1 .1 .1),
+          ),
         ),
       ),
     )

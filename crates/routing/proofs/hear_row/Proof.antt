@@ -9,8 +9,8 @@ use denote.Ref.{now}
 use Rattle.ancestors.specs.Ancestors.{has}
 use Rattle.network.specs.Round.{hear}
 use Rattle.memory.specs.Layout.{wordCount, view}
-use Rattle.routing.specs.Inner.{Hears, oneMark, rowMarks}
-use Rattle.routing.proofs.Hearing.{hear-arc, hears-next, hears-first, row-unmarked, row-step, node-kept}
+use Rattle.routing.specs.Inner.{Hears, OnArc, oneMark, rowMarks}
+use Rattle.routing.proofs.Hearing.{hears-next, hears-first, row-unmarked, row-step, node-kept, bit-on}
 use Rattle.routing.proofs.hear_row.Statement.{statement}
 use Rattle.routing.proofs.hear_row.Tie as tie
 
@@ -43,8 +43,11 @@ hear-arc-requires c κs =
         l .inv .0 .primed,
         (
           node-kept _ x _ (l .s) (l .inv .0) (omega (arith, p .1 .1 .0 .is)),
-          node-kept _ x _
-              (a .receiver) (l .inv .0) (p .1 .1 .1 .below),
+          (
+            node-kept _ x _ (a .receiver) (l .inv .0) (p .1 .1 .1 .0 .below),
+            subst (OnArc (l .net) (l .s) (a .receiver)) (sym (c .listed .ensures))
+                (bit-on _ (now (a .net)) (l .net) (l .s) (a .receiver) (a .word) (l .inv .0) (omega (arith, p .1 .1 .0 .few)) (p .1 .1 .1 .1)),
+          ),
         ),
       ),
     )

@@ -1,4 +1,4 @@
--- `routing::idle_marks` meets its contract. The loop's invariant: `found` says whether a receiver passed has a mark without an arc.
+-- `routing::idle_marks` meets its contract. The loop's invariant: `found` says whether a receiver passed has a mark that is not in its word of arcs.
 -- Assumes nothing.
 use borrow.Author.Needs.{needs}
 use native.Mathlib.Omega.{arith}
@@ -7,16 +7,15 @@ use Prim.Native.Nat.{_-_, _≤_}
 use native.Mathlib.Numerals.{add-one}
 use denote.Ref.{now}
 use Rattle.network.specs.Round.{some}
-use Rattle.memory.specs.Layout.{view}
 use Rattle.routing.specs.Inner.{idleRows}
 use Rattle.routing.proofs.idle_marks.Statement.{statement}
 use Rattle.routing.proofs.idle_marks.Tie as tie
 
 abbrev Inv-loop : tie.InvT-loop
-Inv-loop net n marks found₀ r₀ found r = (found ≡ idleRows (view net) marks r) × (r ≤ n)
+Inv-loop arcs marks found₀ r₀ found r = (found ≡ idleRows arcs marks r) × (r ≤ 32)
 
 abbrev μ-loop : tie.MeasureT-loop
-μ-loop net n marks found₀ r₀ found r = n - r
+μ-loop arcs marks found₀ r₀ found r = 32 - r
 
 loop-holds : tie.Need-loop-holds Inv-loop μ-loop
 unfolding idleRows some
@@ -25,13 +24,13 @@ loop-holds c = (refl, omega arith)
 loop-again : tie.Need-loop-again Inv-loop μ-loop
 unfolding idleRows some
 loop-again c =
-    let l = c .before .before .before .before .loop in
-    (c .or .ensures ∙ rw (add-one, c .before .idle-row .ensures, l .inv .0, c .before .before .before .before .before .before .before .pre .1 .0 .is), omega arith)
+    let l = c .before .before .before .before .before .loop in
+    (c .or .ensures ∙ rw (add-one, c .before .outside .ensures, l .inv .0), omega arith)
 
 returns : tie.Need-returns Inv-loop μ-loop
 returns c =
     let a = c .before .before .before .before .args in
-    c .before .loop .inv .0 ∙ ap (idleRows (view (now (a .net))) (now (a .marks))) (omega arith)
+    c .before .loop .inv .0 ∙ ap (idleRows (now (a .arcs)) (now (a .marks))) (omega arith)
 
 pub idle-marks-spec : {M : Type 1} → statement M
 idle-marks-spec =
@@ -40,6 +39,8 @@ idle-marks-spec =
     Inv-loop
     μ-loop
     loop-holds
+    (λ c. omega arith)
+    (λ c. omega arith)
     (λ c. omega arith)
     (λ c. omega arith)
     (λ c κs. search needs)

@@ -24,7 +24,8 @@ loop-holds c = (refl, omega arith)
 loop-again : tie.Need-loop-again Inv-loop μ-loop
 unfolding strayRows some
 loop-again c =
-    (c .or .ensures ∙ rw (add-one, c .before .stray-row .ensures, c .before .before .before .before .loop .inv .0), omega arith)
+    let l = c .before .before .before .before .before .loop in
+    (c .or .ensures ∙ rw (add-one, c .before .outside .ensures, c .before .before .senders .ensures, l .inv .0), omega arith)
 
 returns : tie.Need-returns Inv-loop μ-loop
 returns c =
@@ -41,6 +42,7 @@ stray-marks-spec =
     (λ c. omega arith)
     (λ c. omega arith)
     (λ c. omega arith)
+    (λ c κs. search needs)
     (λ c κs. search needs)
     (λ c κs. search needs)
     (λ c. omega arith)
