@@ -8,7 +8,7 @@ use Rattle.network.specs.Faults.{maxNodes}
 use Rattle.network.specs.Network.{Row, none, root, via, Report, empty, told}
 use Rattle.network.specs.Writing.{Writing}
 use Rattle.memory.specs.Layout.{view}
-use Rattle.memory.specs.Answers.{RowAnswer, CostAnswer, HeldAnswer}
+use Rattle.memory.specs.Answers.{RowAnswer, ArcsAnswer, CostAnswer, HeldAnswer}
 use Rattle.records.specs.Running.{Running}
 use Rattle.response.specs.Reading.{Reading, places}
 
@@ -36,6 +36,11 @@ routeWords k (via d p l) h = k ∷ d ∷ p ∷ l ∷ h ∷ []
 unfoldable pub rowWords : RowAnswer → List ℕ
 rowWords a = routeWords (a .number) (a .row) (a .hops)
 
+-- number and word
+unfoldable pub arcsWords : ArcsAnswer → List ℕ
+arcsWords a = a .number ∷ a .arcs ∷ []
+
+-- number and cost
 unfoldable pub costWords : CostAnswer → List ℕ
 costWords a = a .number ∷ a .cost ∷ []
 

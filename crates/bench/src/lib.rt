@@ -1,5 +1,6 @@
 // The calls under C names, for the benchmark in bench/ and the comparisons in tests/. Where the answer is a number it is the call itself, with its
 // contract; the others hand out the answer in lent words.
+use memory::ArcsRead;
 use memory::CostRead;
 use memory::HeldRead;
 use memory::Network;
@@ -13,7 +14,7 @@ ghost use Rattle.network.specs.Placing.{placeRowOf, placeReportOf};
 ghost use Rattle.network.specs.Round.{roundOf, fullRoundOf};
 ghost use Rattle.network.specs.Change.{changeOf, gradeOf};
 ghost use Rattle.memory.specs.Layout.{view};
-ghost use Rattle.memory.specs.Answers.{Leaves, Starts, readRow, rowMeans, readCost, costMeans, readHeld, heldMeans};
+ghost use Rattle.memory.specs.Answers.{Leaves, Starts, readRow, rowMeans, readArcs, arcsMeans, readCost, costMeans, readHeld, heldMeans};
 ghost use lib.ListN.{length, getD};
 ghost use Rattle.network.specs.Route.{routeOf};
 ghost use Rattle.records.specs.Image.{imageOf};
@@ -22,7 +23,7 @@ ghost use Rattle.records.specs.Running.{runOf};
 ghost use Rattle.opening.specs.Answers.{Opens};
 ghost use Rattle.response.specs.Messages.{writeOf};
 ghost use Rattle.response.specs.Reading.{readOf};
-ghost use Rattle.bench.specs.Handed.{RunsTo, WritesTo, rowWords, costWords, heldWords, readWords};
+ghost use Rattle.bench.specs.Handed.{RunsTo, WritesTo, rowWords, arcsWords, costWords, heldWords, readWords};
 
 #[no_mangle]
 pub extern "C" fn bench_fresh(net: &mut Network, n: u32, origin: u32) -> u8
@@ -212,6 +213,20 @@ pub extern "C" fn bench_row(net: &Network, node: u32, answer: &mut [u64; 5])
     ensures { λ _. ⌜ now (answer .exit) ≡ rowWords (readRow (view (now (net .entry))) node) ⌝ }
 {
     *answer = row_words(memory::row(net, node));
+}
+
+fn arcs_words(read: ArcsRead) -> [u64; 2]
+    ensures { λ r. ⌜ r ≡ arcsWords (arcsMeans read) ⌝ }
+{
+    [read.number as u64, read.arcs as u64]
+}
+
+// A receiver's arcs: number and word in answer.
+#[no_mangle]
+pub extern "C" fn bench_arcs(net: &Network, receiver: u32, answer: &mut [u64; 2])
+    ensures { λ _. ⌜ now (answer .exit) ≡ arcsWords (readArcs (view (now (net .entry))) receiver) ⌝ }
+{
+    *answer = arcs_words(memory::arcs(net, receiver));
 }
 
 fn cost_words(read: CostRead) -> [u64; 2]

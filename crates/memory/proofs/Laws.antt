@@ -15,10 +15,11 @@ use Rattle.network.specs.Network.{Row, none, root, via, Report, empty, told, Ne
 use Rattle.network.proofs.FaultLaws.{node-free}
 use Rattle.network.proofs.Effects.{outcome-number, refused-net, accepted-net}
 use Rattle.memory.specs.Layout.{word, rowOf, nodeRow, netOf, frameIn, look, view, listWord, rowLabels, rowPredecessors, rowLists}
-use Rattle.memory.specs.Answers.{Leaves, Starts, RowAnswer, rowHops, readRow, rowMeans, CostAnswer, readCost, costMeans, HeldAnswer, readHeld, heldMeans}
+use Rattle.memory.specs.Answers.{Leaves, Starts, RowAnswer, rowHops, readRow, rowMeans, arcsMeans, CostAnswer, readCost, costMeans, HeldAnswer, readHeld, heldMeans}
 use Rattle.memory.specs.declared.RowRead.{RowRead}
 use Rattle.memory.specs.declared.RowRead.the-variants as R
 use Rattle.memory.specs.declared.CostRead.{CostRead}
+use Rattle.memory.specs.declared.ArcsRead.{ArcsRead}
 use Rattle.memory.specs.declared.HeldRead.{HeldRead}
 use Rattle.memory.specs.declared.HeldRead.the-variants as H
 
@@ -81,6 +82,10 @@ route-means d p l h = refl
 pub cost-means : (r : CostRead) → costMeans r ≡ record { number = r .number; cost = r .cost }
 unfolding costMeans
 cost-means r = refl
+
+pub arcs-means : (r : ArcsRead) → arcsMeans r ≡ record { number = r .number; arcs = r .arcs }
+unfolding arcsMeans
+arcs-means r = refl
 
 pub refused-report-means : heldMeans H.Refused ≡ record { number = 3; held = empty }
 unfolding heldMeans
