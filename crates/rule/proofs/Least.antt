@@ -134,10 +134,16 @@ module _ (arcs : ℕ) (costs labels lists : List ℕ) (y : ℕ) where
   pub ones-of-nodes : (s k : ℕ) → has arcs s ≡ true → getD lists s 0 < 2 ^ 32 → k ≡ count (has (getD lists s 0)) 32 → k ≡ g s
   ones-of-nodes s k h fits e = e ∙ sym (ones-count 32 (getD lists s 0) fits) ∙ ap ones (sym (list-over-arc s h))
 
-  -- an offer below a limit comes over an arc, and so does a winner's
+  -- an offer below a limit comes over an arc
   pub below-arc : (m s v : ℕ) → offerBelow m (f s) ≡ Sum v → has arcs s ≡ true
   below-arc m s v h = over-arc s v (below-sum m (f s) v h .0) .0
 
+  -- and is not 0
+  pub below-positive : (m s v : ℕ) → offerBelow m (f s) ≡ Sum v → 0 < v
+  unfolding costOf
+  below-positive m s v h = omega (arith, over-arc s v (below-sum m (f s) v h .0) .1)
+
+  -- a winner's comes over an arc
   pub won-arc : (c : ℕ → ℕ) (n b p : ℕ) → winner f c n ≡ sender p b → has arcs p ≡ true
   won-arc c n b p e = go (subst (Won f c n) e (won f c n))
     where

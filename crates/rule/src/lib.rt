@@ -27,29 +27,38 @@ fn wide(x: u32) -> u64
     x as u64
 }
 
-// Label plus the cost of a word, which may not fit 32 bits.
+// Label plus the cost of a word, less one, as costs are stored; it may not fit 32 bits.
 fn total(label: u32, cost: u32) -> u64
-    ensures { λ r. ⌜ r ≡ label + costOf cost ⌝ }
+    ensures { λ r. ⌜ r + 1 ≡ label + costOf cost ⌝ }
 {
-    wide(label) + wide(cost % 65536) + 1
+    wide(label) + wide(cost % 65536)
 }
 
-// The offer of a sender's report, given as two words, over an arc whose cost is given as a word, if it is below a limit. The sum is tested first:
+// Whether a sender's bit is 1 in a word of arcs.
+fn present(arcs: u32, sender: u32) -> bool
+    requires { ⌜ sender < 32 ⌝ }
+    ensures { λ r. ⌜ r ≡ has arcs sender ⌝ }
+{
+    (arcs >> (sender % 32)) & 1 == 1
+}
+
+// The offer of a sender's report, given as two words, over an arc whose cost is given as a word, if it is at most a bound. The sum is tested first:
 // where it is too large neither the list nor the arc's bit need be read.
-fn offer_below(
+fn offer_most(
     arcs: u32,
     sender: u32,
     label: u32,
     list: u32,
     cost: u32,
     receiver: u32,
-    limit: u32,
+    most: u32,
 ) -> Offer
-    requires { ⌜ limit ≤ maxLabel + 1 ⌝ }
-    ensures { λ r. ⌜ r ≡ offerBelow limit (offer receiver (cond (has arcs sender) (costOf cost) 0) (cond (has arcs sender) (reportOf label list) empty)) ⌝ }
+    requires { ⌜ sender < 32 ⌝ }
+    requires { ⌜ most ≤ maxLabel ⌝ }
+    ensures { λ r. ⌜ r ≡ offerBelow (most + 1) (offer receiver (cond (has arcs sender) (costOf cost) 0) (cond (has arcs sender) (reportOf label list) empty)) ⌝ }
 {
-    let sum = total(label, cost);
-    if wide(limit) <= sum {
+    let less = total(label, cost);
+    if wide(most) <= less {
         return Offer::Nothing;
     }
     if list == 0 {
@@ -58,8 +67,8 @@ fn offer_below(
     if ancestors::listed(list, receiver) {
         return Offer::Nothing;
     }
-    if ancestors::listed(arcs, sender) {
-        return Offer::Sum(sum as u32);
+    if present(arcs, sender) {
+        return Offer::Sum(less as u32 + 1);
     }
     Offer::Nothing
 }
@@ -85,14 +94,14 @@ fn fewest_ones(
     let mut fewest = ancestors::count_nodes(lists[first]);
     for s in first + 1..n {
         let list = lists[s];
-        let Offer::Sum(_) = offer_below(
+        let Offer::Sum(_) = offer_most(
             arcs,
             s as u32,
             labels[s],
             list,
             costs[s],
             receiver,
-            least + 1,
+            least,
         ) else {
             continue;
         };
@@ -106,6 +115,7 @@ fn fewest_ones(
 }
 
 // The least offer of the senders, of equals that of fewest ones, and then the lowest sender's. Ones are counted only if the least sum is met again.
+// Sums are compared less one: `most` is that of the least sum so far.
 fn least_offer(arcs: u32, costs: &[u32], labels: &[u32], lists: &[u32], receiver: u32) -> Choice
     requires { ⌜ length (now costs) ≤ 32 ⌝ }
     requires { ⌜ length (now labels) ≡ length (now costs) ⌝ }
@@ -114,34 +124,34 @@ fn least_offer(arcs: u32, costs: &[u32], labels: &[u32], lists: &[u32], receiver
     ensures { λ r. ⌜ choiceMeans r ≡ chosen (choice (length (now (costs .entry))) (costsOf arcs (now (costs .entry))) (reports arcs (now (labels .entry)) (now (lists .entry))) receiver) ⌝ }
 {
     let n = costs.len();
-    let mut least = network::MAX_LABEL + 1;
+    let mut most = network::MAX_LABEL;
     let mut from = 0usize;
     let mut again = false;
     for s in 0..n {
-        again = or(again, total(labels[s], costs[s]) == wide(least));
-        let Offer::Sum(sum) = offer_below(
+        again = or(again, total(labels[s], costs[s]) == wide(most));
+        let Offer::Sum(sum) = offer_most(
             arcs,
             s as u32,
             labels[s],
             lists[s],
             costs[s],
             receiver,
-            least,
+            most,
         ) else {
             continue;
         };
-        least = sum;
+        most = sum - 1;
         from = s;
         again = false;
     }
-    if network::MAX_LABEL < least {
+    if network::MAX_LABEL <= most {
         return Choice::NoRoute;
     }
     if again {
-        from = fewest_ones(arcs, costs, labels, lists, receiver, least, from);
+        from = fewest_ones(arcs, costs, labels, lists, receiver, most + 1, from);
     }
     Choice::Route {
-        label: least,
+        label: most + 1,
         predecessor: from as u32,
         list: ancestors::joined(lists[from], receiver),
     }

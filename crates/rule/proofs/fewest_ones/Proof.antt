@@ -44,15 +44,11 @@ loop-holds c =
       omega (arith, won-below _ _ _ _ _ e),
     )
 
-add-offer-below : tie.Need-add-offer-below Inv-loop μ-loop
-add-offer-below c =
+offer-most-requires : tie.Need-offer-most-requires Inv-loop μ-loop
+offer-most-requires c κs =
     let a = c .before .before .before .before .before .before .before .before .before .before .args in
-    omega (arith, least-fits (a .arcs) (now (a .costs)) (now (a .labels)) (now (a .lists)) (a .receiver) _ _ _ (c .before .before .before .before .before .before .before .before .before .before .pre .1 .1 .1))
-
-offer-below-requires : tie.Need-offer-below-requires Inv-loop μ-loop
-offer-below-requires c κs =
-    let a = c .before .before .before .before .before .before .before .before .before .before .args in
-    omega (arith, least-fits (a .arcs) (now (a .costs)) (now (a .labels)) (now (a .lists)) (a .receiver) _ _ _ (c .before .before .before .before .before .before .before .before .before .before .pre .1 .1 .1))
+    let fits = least-fits (a .arcs) (now (a .costs)) (now (a .labels)) (now (a .lists)) (a .receiver) _ _ _ (c .before .before .before .before .before .before .before .before .before .before .pre .1 .1 .1) in
+    (omega arith, fits)
 
 loop-again : tie.Need-loop-again Inv-loop μ-loop
 loop-again c =
@@ -62,7 +58,7 @@ loop-again c =
     let ds = now (a .labels) in
     let ls = now (a .lists) in
     let e = c .before .before .before .before .before .before .before .before .before .before .before .before .before .pre .1 .1 .1 in
-    let o = sym (c .before .before .offer-below .ensures) ∙ c .enum-told2 .given .1 in (
+    let o = sym (c .before .before .offer-most .ensures) ∙ c .enum-told2 .given .1 in (
       fewest-pass (a .arcs) xs ds ls (a .receiver) (length xs) (a .least) (a .first) e (l .s) (l .from) (omega arith) (l .inv .0) o,
       l .inv .1,
       omega arith,
@@ -76,7 +72,7 @@ loop-again-2 c =
     let ds = now (a .labels) in
     let ls = now (a .lists) in
     let e = c .before .before .before .before .before .before .before .before .before .before .before .before .before .before .before .pre .1 .1 .1 in
-    let o = sym (c .before .before .before .before .offer-below .ensures) ∙ c .before .before .enum-told .given .1 in
+    let o = sym (c .before .before .before .before .offer-most .ensures) ∙ c .before .before .enum-told .given .1 in
     let arc = below-arc (a .arcs) xs ds ls (a .receiver) _ _ _ o in
     let nodes = ones-of-nodes (a .arcs) xs ds ls (a .receiver) (l .s) _ arc (omega (arith, c .before .before .before .before .before .before .before .shared-slice-known5 .given (l .s))) (c .before .count-nodes2 .ensures) in
     ⊎-elim
@@ -124,8 +120,7 @@ fewest-ones-spec =
     (λ c. omega arith)
     (λ c. omega arith)
     (λ c. omega arith)
-    add-offer-below
-    offer-below-requires
+    offer-most-requires
     (λ c. search needs)
     (λ c. search needs)
     (λ c. omega arith)

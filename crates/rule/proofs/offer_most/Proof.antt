@@ -1,12 +1,12 @@
--- `rule::offer_below` meets its contract, case by case.
+-- `rule::offer_most` meets its contract, case by case.
 -- Assumes nothing.
 use borrow.Author.Needs.{needs}
 use native.Mathlib.Omega.{arith}
 use mathlib.Core.Path.{sym, ap, _∙_}
 use Rattle.network.specs.declared.Offer.the-variants.{Sum}
 use Rattle.rule.proofs.Least.{offer-absent, offer-empty, offer-listed, offer-large, offer-sum}
-use Rattle.rule.proofs.offer_below.Statement.{statement}
-use Rattle.rule.proofs.offer_below.Tie as tie
+use Rattle.rule.proofs.offer_most.Statement.{statement}
+use Rattle.rule.proofs.offer_most.Tie as tie
 
 returns : tie.Need-returns
 returns c = offer-large _ _ _ _ _ _ _ (omega (arith, c .before .before .total .ensures, c .before .wide .ensures, c .if1 .taken))
@@ -19,18 +19,18 @@ returns-3 c = offer-listed _ _ _ _ _ _ _ (c .before .before .if2 .left) (sym (c 
 
 returns-4 : tie.Need-returns-4
 returns-4 c =
+    let b = c .before .before .before .before .before .before .before .before in
     let sum = c .before .before .before .before .before .before .before .total .ensures in
     ap Sum sum ∙
     offer-sum _ _ _ _ _ _ _ (c .before .before .before .before .if2 .left) (sym (c .before .before .before .listed .ensures) ∙ c .before .before .if3 .left)
-    (sym (c .before .listed2 .ensures) ∙ c .if4 .taken)
-    (c .before .before .before .before .before .before .before .before .pre)
+    (sym (c .before .present .ensures) ∙ c .if4 .taken) (omega (arith, b .pre))
     (omega (arith, sum, c .before .before .before .before .before .before .wide .ensures, c .before .before .before .before .before .if1 .left))
 
 returns-5 : tie.Need-returns-5
-returns-5 c = offer-absent _ _ _ _ _ _ _ (sym (c .before .listed2 .ensures) ∙ c .if4 .left)
+returns-5 c = offer-absent _ _ _ _ _ _ _ (sym (c .before .present .ensures) ∙ c .if4 .left)
 
-pub offer-below-spec : {M : Type 1} → statement M
-offer-below-spec =
+pub offer-most-spec : {M : Type 1} → statement M
+offer-most-spec =
     tie.close
     (tie.spec (λ c κs. search needs) (λ c κs. search needs) returns returns-2 (λ c κs. search needs) returns-3 (λ c κs. search needs) (λ c. omega arith)
-    returns-4 returns-5)
+    (λ c. omega arith) returns-4 returns-5)
