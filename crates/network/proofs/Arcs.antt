@@ -61,7 +61,7 @@ unfolding arcWords
 arc-words-at x r h = numbers-at (arcsTo x) 0 maxNodes r h ∙ ap (arcsTo x) (omega arith)
 
 -- a cost is positive or 0
-some-cost : (c : ℕ) → not (ltb 0 c) ≡ eqb c 0
+pub some-cost : (c : ℕ) → not (ltb 0 c) ≡ eqb c 0
 some-cost zero = refl
 some-cost (suc c) = rw (lt-ltb 0 (suc c) (omega arith), ne-eqb (suc c) 0 (λ e. omega arith))
 

@@ -11,14 +11,14 @@ use lib.ListN.{length, getD, set, length-set}
 use lib.Seq.{getD-set-same, getD-set-other, set-getD}
 use borrow.Author.Tests.{lt-ltb, le-ltb, eq-eqb, ne-eqb}
 use Rattle.ancestors.specs.Ancestors.{has, own}
-use Rattle.ancestors.proofs.Cases.{eq-or-ne, eqb-same, ltb-other}
+use Rattle.ancestors.proofs.Cases.{bool-cases, le-or-lt, eq-or-ne, eqb-same, ltb-other, never}
 use Rattle.ancestors.proofs.Laws.{put-some}
 use Rattle.network.specs.Network.{none, root, via, Report, empty, told, Net, setPair, withHeld}
-use Rattle.network.specs.Round.{Marks, report, hear, marked, everyArc}
+use Rattle.network.specs.Round.{Marks, report, hear, everyArc}
 use Rattle.network.specs.Words.{reportOf}
 use Rattle.memory.specs.Layout.{wordCount, rowOf, look, view, arcBits, heldLabels, heldLists, rowLabels, rowLists, rowPredecessors}
 use Rattle.memory.specs.Inner.{Node}
-use Rattle.routing.specs.Inner.{Nodes, Primed, Hears, OnArc, OnArcs, Marked, oneMark, rowMarks, wordMarks}
+use Rattle.routing.specs.Inner.{Nodes, Primed, Hears, OnArc, OnArcs, Given, RowWord, given, oneMark, rowMarks}
 use Rattle.network.proofs.Arcs.{hear-ext}
 use Rattle.network.proofs.Effects.{same-reports}
 use Rattle.memory.proofs.Laws.{few, read-origin}
@@ -207,16 +207,6 @@ pub row-step : (r w k a b : ℕ) → (oneMark k r (has w k) a b || rowMarks r w 
 unfolding rowMarks oneMark
 row-step r w k a b = senders-step (eqb b r) (has w) k a
 
-pub words-none : (ms : List ℕ) (n a b : ℕ) → wordMarks ms n 0 a b ≡ false
-unfolding wordMarks
-words-none ms n a b = rw (le-ltb b 0 (omega arith))
-
-pub words-step : (ms : List ℕ) (n r a b : ℕ) → (rowMarks r (getD ms r 0) n a b || wordMarks ms n r a b) ≡ wordMarks ms n (r + 1) a b
-unfolding rowMarks wordMarks
-words-step ms n r a b =
-    rows-step (λ a b. ltb a n && has (getD ms r 0) a) (λ a b. ltb a n && has (getD ms b 0) a) r a b
-    (λ e. ap (λ y. ltb a n && has (getD ms y 0) a) (sym e))
-
 -- ---- marks on arcs
 
 -- hearing changes no arc
@@ -224,18 +214,83 @@ arc-kept : (m : Marks) (x : Net) (ys : List ℕ) (s r : ℕ) → Hears ys (hear 
 unfolding everyArc
 arc-kept m x ys s r h = ap (λ (z : Net). ltb 0 (z .cost s r)) (h .net) ∙ ap (λ f. ltb 0 (f s r)) (hear-cost m x)
 
--- a bit of a word that lies on arcs, a word of marks, and marks after some are heard
-pub bit-on : (m : Marks) (xs ys : List ℕ) (s r w : ℕ) → Hears ys (hear m (view xs)) → s < 32 → OnArcs xs r w → OnArc ys s r (has w s)
+-- a bit of a word that lies on arcs
+pub bit-on : (m : Marks) (xs ys : List ℕ) (s r w : ℕ) → Hears ys (hear m (view xs)) → s < view xs .nodes → OnArcs xs r w → OnArc ys s r (has w s)
 bit-on m xs ys s r w h b on = record { arc = λ e. arc-kept m (view xs) ys s r h ∙ on .arc s b e }
 
-pub word-on : (m : Marks) (xs ys ms : List ℕ) (r : ℕ) → Hears ys (hear m (view xs)) → r < 32 → Marked xs ms → OnArcs ys r (getD ms r 0)
-unfolding marked
-word-on m xs ys ms r h b on =
-    record { arc = λ s k e. arc-kept m (view xs) ys s r h ∙ on .arc s r (rw (lt-ltb s 32 k, lt-ltb r 32 b) e) }
+-- ---- the arcs that are heard, by receiver
 
-pub marks-on : (xs ps ms : List ℕ) → Hears ps (view xs) → Marked xs ms → Marked ps ms
-unfolding everyArc
-marks-on xs ps ms h on = record { arc = λ s r e. ap (λ (z : Net). ltb 0 (z .cost s r)) (h .net) ∙ on .arc s r e }
+given-ext : (x y : Net) (full : Bool) (ms : List ℕ) (s r : ℕ) → everyArc x s r ≡ everyArc y s r → given x full ms s r ≡ given y full ms s r
+unfolding given
+given-ext x y true ms s r e = e
+given-ext x y false ms s r e = refl
+
+-- those of the receivers below k
+abbrev pub upTo : Net → Bool → List ℕ → ℕ → Marks
+upTo x full ms k s y = ltb y k && given x full ms s y
+
+pub up-none : (x : Net) (full : Bool) (ms : List ℕ) (s r : ℕ) → upTo x full ms 0 s r ≡ false
+up-none x full ms s r = rw (le-ltb r 0 (omega arith))
+
+-- some heard, they are given as before
+pub given-kept : (m : Marks) (xs ys : List ℕ) (full : Bool) (ms : List ℕ) → Hears ys (hear m (view xs)) → Given xs full ms → Given ys full ms
+given-kept m xs ys full ms h g =
+    record {
+      arc = λ s r e. let q = arc-kept m (view xs) ys s r h in q ∙ g .arc s r (sym (given-ext (view ys) (view xs) full ms s r q) ∙ e);
+      long = g .long;
+    }
+
+-- in words that give the same network too
+pub given-same : (xs ps : List ℕ) (full : Bool) (ms : List ℕ) → Hears ps (view xs) → Given xs full ms → Given ps full ms
+given-same xs ps full ms h g =
+    record {
+      arc = λ s r. subst (λ (x : Net). given x full ms s r ≡ true → everyArc x s r ≡ true) (sym (h .net)) (g .arc s r);
+      long = g .long;
+    }
+
+module _ (m : Marks) (xs ys : List ℕ) (full : Bool) (ms : List ℕ) (r w : ℕ) (h : Hears ys (hear m (view xs))) (g : Given xs full ms)
+    (word : RowWord (view ys) full ms r w) where
+  same-nodes : view ys .nodes ≡ view xs .nodes
+  same-nodes = ap (λ (z : Net). z .nodes) (h .net) ∙ hear-nodes m (view xs)
+
+  -- the word's bits are those heard
+  bit-given : (s : ℕ) → s < view xs .nodes → has w s ≡ given (view xs) full ms s r
+  bit-given s b = word .bit s (omega (arith, same-nodes)) ∙ given-ext (view ys) (view xs) full ms s r (arc-kept m (view xs) ys s r h)
+
+  pub word-on : OnArcs ys r w
+  word-on =
+      record { arc = λ s b e. arc-kept m (view xs) ys s r h ∙ g .arc s r (sym (bit-given s (omega (arith, same-nodes))) ∙ e) }
+
+  -- one receiver more
+  pub up-step : ((s r : ℕ) → (view xs .nodes ≤ s) ⊎ (view xs .nodes ≤ r) → everyArc (view xs) s r ≡ false)
+      → (a b : ℕ) → (rowMarks r w (view xs .nodes) a b || upTo (view xs) full ms r a b) ≡ upTo (view xs) full ms (r + 1) a b
+  unfolding rowMarks
+  up-step beyond a b = rows-step (λ a b. ltb a n && has w a) (given (view xs) full ms) r a b (λ e. go (le-or-lt n a) (ap (given (view xs) full ms a) e))
+    where
+      n : ℕ
+      n = view xs .nodes
+
+      none : n ≤ a → (given (view xs) full ms a r ≡ true) ⊎ (given (view xs) full ms a r ≡ false) → given (view xs) full ms a r ≡ false
+      none k (inl e) = never (everyArc (view xs) a r) (g .arc a r e) (beyond a r (inl k))
+      none k (inr e) = e
+
+      go : (n ≤ a) ⊎ (a < n) → given (view xs) full ms a b ≡ given (view xs) full ms a r → (ltb a n && has w a) ≡ given (view xs) full ms a b
+      go (inl k) q = rw (le-ltb a n k) (sym (q ∙ none k (bool-cases (given (view xs) full ms a r))))
+      go (inr k) q = rw (lt-ltb a n k) (bit-given a k ∙ sym q)
+
+-- all of them
+pub up-all : (xs : List ℕ) (full : Bool) (ms : List ℕ) → Given xs full ms
+    → ((s r : ℕ) → (view xs .nodes ≤ s) ⊎ (view xs .nodes ≤ r) → everyArc (view xs) s r ≡ false)
+    → (s r : ℕ) → upTo (view xs) full ms (view xs .nodes) s r ≡ given (view xs) full ms s r
+up-all xs full ms g beyond s r = go (bool-cases (given (view xs) full ms s r)) (le-or-lt n r)
+  where
+    n : ℕ
+    n = view xs .nodes
+
+    go : (given (view xs) full ms s r ≡ true) ⊎ (given (view xs) full ms s r ≡ false) → (n ≤ r) ⊎ (r < n) → (ltb r n && given (view xs) full ms s r) ≡ given (view xs) full ms s r
+    go (inl e) (inl k) = never (everyArc (view xs) s r) (g .arc s r e) (beyond s r (inr k))
+    go (inl e) (inr k) = rw (lt-ltb r n k)
+    go (inr e) k = rw (e, and-false (ltb r n))
 
 -- ---- the origin's words set
 module _ (xs : List ℕ) (size : length xs ≡ wordCount) (y l : ℕ) (e : y ≡ view xs .origin) (h : y < view xs .nodes) where

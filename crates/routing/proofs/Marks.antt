@@ -1,26 +1,26 @@
 -- Marks tested and heard a word at a time are the marks of the definition.
 -- Assumes nothing.
-use mathlib.Core.Path.{_≡_, sym, ap, ap₂, _∙_}
-use mathlib.Core.Bool.{true, false, not, _&&_, and-false}
+use mathlib.Core.Path.{_≡_, refl, sym, ap, ap₂, _∙_}
+use mathlib.Core.Bool.{Bool, true, false, cond, not, _&&_}
 use mathlib.Core.Logic.{_⊎_, inl, inr}
 use mathlib.Core.List.{List}
-use Prim.Native.Nat.{ℕ, _<_, _≤_}
+use Prim.Native.Nat.{ℕ, _+_, _<_, _≤_}
 use native.Mathlib.Omega.{arith}
 use lib.Dec.{eqb, ltb}
-use lib.ListN.{getD}
-use borrow.Author.Tests.{lt-ltb, le-ltb, eqb-false}
-use Rattle.ancestors.specs.Ancestors.{has}
-use Rattle.ancestors.proofs.Cases.{bool-cases, le-or-lt, never}
+use lib.ListN.{length, getD}
+use borrow.Author.Tests.{lt-ltb, eqb-false}
+use Rattle.ancestors.specs.Ancestors.{has, cut}
+use Rattle.ancestors.proofs.Cases.{bool-cases, never}
 use Rattle.network.specs.Faults.{pairFault}
-use Rattle.network.specs.Network.{Net}
 use Rattle.network.specs.Round.{marked, some, strayMark, idleMark, everyArc}
-use Rattle.network.specs.Arcs.{arcWords, senders}
-use Rattle.network.proofs.Arcs.{stray-bit, idle-bit, arc-words-at, words-mark}
+use Rattle.network.specs.Arcs.{senders}
+use Rattle.network.proofs.Arcs.{stray-bit, some-cost}
 use Rattle.network.proofs.Marking.{some-ext, marked-fails}
-use Rattle.memory.specs.Layout.{view}
+use Rattle.memory.specs.Layout.{look, view, arcBits}
 use Rattle.memory.proofs.Laws.{few}
-use Rattle.memory.proofs.Store.{arc-is, arc-beyond}
-use Rattle.routing.specs.Inner.{Marked, wordMarks, outside, strayRows, idleRows}
+use Rattle.memory.proofs.Store.{present-in, arc-is, arc-beyond}
+use Rattle.routing.specs.Inner.{Given, RowWord, given, outside, strayRows, idleRows}
+use Rattle.routing.proofs.Renewing.{arc-at}
 
 -- ---- refusals
 
@@ -32,54 +32,57 @@ pub stray-agrees : (n : ℕ) (ms : List ℕ) → strayRows n ms 32 ≡ strayMark
 unfolding strayRows outside strayMark
 stray-agrees n ms = some-ext _ _ 32 (λ r k. some-ext _ _ 32 (λ s h. ap₂ _&&_ (mark-is ms s r h k) (stray-bit n r s h)))
 
-pub idle-agrees : (x : Net) (ms : List ℕ) → idleRows (arcWords x) ms 32 ≡ idleMark (x .cost) (marked ms)
-unfolding idleRows outside idleMark
-idle-agrees x ms =
-    some-ext _ _ 32 (λ r k. some-ext _ _ 32 (λ s h. ap₂ _&&_ (mark-is ms s r h k) (ap (λ w. not (has w s)) (arc-words-at x r k) ∙ idle-bit x r s h)))
-
 -- ---- marks on arcs
 
--- no mark without an arc
-pub none-idle : (xs ms : List ℕ) → idleMark (view xs .cost) (marked ms) ≡ false → Marked xs ms
-unfolding idleMark everyArc
-none-idle xs ms e =
-    record {
-      arc = λ s r m.
-          let k = eqb-false (view xs .cost s r) 0 (marked-fails ms (λ s r. eqb (view xs .cost s r) 0) e s r m) in
-          lt-ltb 0 (view xs .cost s r) (omega (arith, k));
-    }
+module _ (xs ms : List ℕ) (n : ℕ) (is : n ≡ view xs .nodes) where
+  module _ (near : strayMark (view xs .nodes) (marked ms) ≡ false) where
+    -- a mark in range lies on an arc exactly if its bit is in the word of arcs
+    arc-bit : (s r : ℕ) → marked ms s r ≡ true → not (has (look xs (arcBits + r)) s) ≡ eqb (view xs .cost s r) 0
+    unfolding strayMark
+    arc-bit s r m =
+        ap not (sym (present-in (view xs .nodes) (look xs) s r (marked-fails ms (pairFault (view xs .nodes)) near s r m)) ∙ arc-is xs s r)
+        ∙ some-cost (view xs .cost s r)
 
-module _ (xs : List ℕ) where
-  -- an arc joins nodes
-  beyond : (s r : ℕ) → (view xs .nodes ≤ s) ⊎ (view xs .nodes ≤ r) → everyArc (view xs) s r ≡ false
-  unfolding everyArc
-  beyond s r h = sym (arc-is xs s r) ∙ arc-beyond xs s r h
+    pub idle-agrees : idleRows xs ms 32 ≡ idleMark (view xs .cost) (marked ms)
+    unfolding idleRows outside idleMark
+    idle-agrees = some-ext _ _ 32 (λ r k. some-ext _ _ 32 (λ s h. ap (λ b. b && not (has (look xs (arcBits + r)) s)) (mark-is ms s r h k) ∙ go s r (bool-cases (marked ms s r))))
+      where
+        go : (s r : ℕ) → (marked ms s r ≡ true) ⊎ (marked ms s r ≡ false)
+            → (marked ms s r && not (has (look xs (arcBits + r)) s)) ≡ (marked ms s r && eqb (view xs .cost s r) 0)
+        go s r (inl m) = ap (_&&_ (marked ms s r)) (arc-bit s r m)
+        go s r (inr m) = rw m
 
-  joins : (s r : ℕ) → everyArc (view xs) s r ≡ true → (s < view xs .nodes) × (r < view xs .nodes)
-  joins s r e = (go (le-or-lt (view xs .nodes) s) inl, go (le-or-lt (view xs .nodes) r) inr)
-    where
-      go : {y : ℕ} → (view xs .nodes ≤ y) ⊎ (y < view xs .nodes) → (view xs .nodes ≤ y → (view xs .nodes ≤ s) ⊎ (view xs .nodes ≤ r)) → y < view xs .nodes
-      go (inl h) f = never (everyArc (view xs) s r) e (beyond s r (f h))
-      go (inr h) f = h
+  -- no mark without an arc
+  pub marks-given : length ms ≡ 32 → idleMark (view xs .cost) (marked ms) ≡ false → Given xs false ms
+  unfolding idleMark everyArc given
+  marks-given long e =
+      record {
+        arc = λ s r m.
+            let k = eqb-false (view xs .cost s r) 0 (marked-fails ms (λ s r. eqb (view xs .cost s r) 0) e s r m) in
+            lt-ltb 0 (view xs .cost s r) (omega (arith, k));
+        long = λ _. long;
+      }
 
-  -- the arcs' words mark every arc
-  pub arcs-marked : (s r : ℕ) → marked (arcWords (view xs)) s r ≡ everyArc (view xs) s r
-  arcs-marked = words-mark (view xs) (λ s r e. let k = joins s r e in (omega (arith, few xs), omega (arith, few xs)))
+pub arcs-given : (xs ms : List ℕ) → Given xs true ms
+unfolding given
+arcs-given xs ms = record { arc = λ s r e. e; long = λ z. never true refl z }
 
-  pub arcs-on : Marked xs (arcWords (view xs))
-  arcs-on = record { arc = λ s r e. sym (arcs-marked s r) ∙ e }
+-- an arc joins nodes
+pub beyond : (xs : List ℕ) (s r : ℕ) → (view xs .nodes ≤ s) ⊎ (view xs .nodes ≤ r) → everyArc (view xs) s r ≡ false
+unfolding everyArc
+beyond xs s r h = sym (arc-is xs s r) ∙ arc-beyond xs s r h
 
-  -- marks on arcs are those of nodes
-  pub marks-agree : (ms : List ℕ) → Marked xs ms → (n : ℕ) → n ≡ view xs .nodes → (s r : ℕ) → wordMarks ms n n s r ≡ marked ms s r
-  unfolding wordMarks
-  marks-agree ms on n is s r = go (bool-cases (marked ms s r)) (le-or-lt n s) (le-or-lt n r)
-    where
-      inner : s < n → r < n → (ltb r n && (ltb s n && has (getD ms r 0) s)) ≡ marked ms s r
-      inner a b = rw (lt-ltb r n b, lt-ltb s n a) (mark-is ms s r (omega (arith, few xs)) (omega (arith, few xs)))
+-- ---- the word of a receiver
 
-      go : (marked ms s r ≡ true) ⊎ (marked ms s r ≡ false) → (n ≤ s) ⊎ (s < n) → (n ≤ r) ⊎ (r < n)
-          → (ltb r n && (ltb s n && has (getD ms r 0) s)) ≡ marked ms s r
-      go (inl m) a b = let k = joins s r (on .arc s r m) in inner (omega arith) (omega arith)
-      go (inr m) (inl a) b = rw (le-ltb s n a, and-false (ltb r n)) (sym m)
-      go (inr m) (inr a) (inl b) = rw (le-ltb r n b) (sym m)
-      go (inr m) (inr a) (inr b) = inner a b
+module _ (xs : List ℕ) (full : Bool) (ms : List ℕ) (r : ℕ) (below : r < view xs .nodes) where
+  -- in a full round its arcs, without its own bit
+  pub row-arcs : (w : ℕ) → full ≡ true → w ≡ cond (ltb r 32) (cut (look xs (arcBits + r)) r) (look xs (arcBits + r)) → RowWord (view xs) full ms r w
+  unfolding given everyArc
+  row-arcs w t e =
+      record { bit = λ s h. arc-at xs (view xs .nodes) r refl below w e s h ∙ arc-is xs s r ∙ sym (ap (λ b. given (view xs) b ms s r) t) }
+
+  -- else its marks
+  pub row-marks : full ≡ false → RowWord (view xs) full ms r (getD ms r 0)
+  unfolding given
+  row-marks t =
+      record { bit = λ s h. mark-is ms s r (omega (arith, few xs)) (omega (arith, few xs)) ∙ sym (ap (λ b. given (view xs) b ms s r) t) }

@@ -42,23 +42,10 @@ module _ (xs : List ℕ) (c n : ℕ) (h : c + n ≤ length xs) where
   part-at : (s : ℕ) → s < n → getD (part xs c n) s 0 ≡ look xs (c + s)
   part-at s b = getD-take (c + n - c) (drop c xs) s 0 (omega arith) ∙ getD-drop c xs s 0
 
--- y's choice from its words is its choice in the network
-module _ (xs : List ℕ) (size : length xs ≡ wordCount) (n y : ℕ) (is : n ≡ view xs .nodes) (below : y < view xs .nodes) (arcs : ℕ)
+-- the word of y's arcs without its own bit says which of them are present
+module _ (xs : List ℕ) (n y : ℕ) (is : n ≡ view xs .nodes) (below : y < view xs .nodes) (arcs : ℕ)
     (bits : arcs ≡ cond (ltb y 32) (cut (look xs (arcBits + y)) y) (look xs (arcBits + y))) where
-  room : (b : ℕ) → b ≤ heldLists → b + y * 32 + n ≤ length xs
-  room b h = omega (arith, few xs)
-
-  abbrev costs : List ℕ
-  costs = part xs (arcCosts + y * 32) n
-
-  abbrev labels : List ℕ
-  labels = part xs (heldLabels + y * 32) n
-
-  abbrev lists : List ℕ
-  lists = part xs (heldLists + y * 32) n
-
-  -- the word of y's arcs without its own bit says which of them are present
-  arc-at : (s : ℕ) → s < n → has arcs s ≡ Has xs s y
+  pub arc-at : (s : ℕ) → s < n → has arcs s ≡ Has xs s y
   arc-at s h = ap (λ w. has w s) (bits ∙ rw (lt-ltb y 32 small)) ∙ go (eq-or-ne y s)
     where
       small : y < 32
@@ -75,16 +62,31 @@ module _ (xs : List ℕ) (size : length xs ≡ wordCount) (n y : ℕ) (is : n �
           has-cut-other w y s e
           ∙ sym (present-in (view xs .nodes) (look xs) s y (pair-free (view xs .nodes) s y (omega arith) below (λ q. e (sym q))))
 
+-- y's choice from its words is its choice in the network
+module _ (xs : List ℕ) (size : length xs ≡ wordCount) (n y : ℕ) (is : n ≡ view xs .nodes) (below : y < view xs .nodes) (arcs : ℕ)
+    (bits : arcs ≡ cond (ltb y 32) (cut (look xs (arcBits + y)) y) (look xs (arcBits + y))) where
+  room : (b : ℕ) → b ≤ heldLists → b + y * 32 + n ≤ length xs
+  room b h = omega (arith, few xs)
+
+  abbrev costs : List ℕ
+  costs = part xs (arcCosts + y * 32) n
+
+  abbrev labels : List ℕ
+  labels = part xs (heldLabels + y * 32) n
+
+  abbrev lists : List ℕ
+  lists = part xs (heldLists + y * 32) n
+
   -- the word of sender s in a part
   word-at : (b : ℕ) → b ≤ heldLists → (s : ℕ) → s < n → getD (part xs (b + y * 32) n) s 0 ≡ look xs (b + (y * 32 + s))
   word-at b k s h = part-at xs (b + y * 32) n (room b k) s h ∙ ap (look xs) (omega arith)
 
   cost-at : (s : ℕ) → s < n → costsOf arcs costs s ≡ view xs .cost s y
-  cost-at s h = (λ j. cond (arc-at s h j) (costOf (word-at arcCosts (omega arith) s h j)) 0) ∙ cost-by xs s y
+  cost-at s h = (λ j. cond (arc-at xs n y is below arcs bits s h j) (costOf (word-at arcCosts (omega arith) s h j)) 0) ∙ cost-by xs s y
 
   held-at : (s : ℕ) → s < n → reports arcs labels lists s ≡ view xs .held s y
   held-at s h =
-      (λ j. cond (arc-at s h j) (reportOf (word-at heldLabels (omega arith) s h j) (word-at heldLists (omega arith) s h j)) empty) ∙ held-by xs s y
+      (λ j. cond (arc-at xs n y is below arcs bits s h j) (reportOf (word-at heldLabels (omega arith) s h j) (word-at heldLists (omega arith) s h j)) empty) ∙ held-by xs s y
 
   pub choose-words : chooseOf arcs costs labels lists y ≡ chosen (choice n (λ s. view xs .cost s y) (λ s. view xs .held s y) y)
   unfolding chooseOf wordsFault

@@ -1,16 +1,16 @@
 -- What the private functions do: the parts of a round.
 -- Assumes nothing.
 use mathlib.Core.Path.{_≡_}
-use mathlib.Core.Bool.{Bool, true, not, _&&_}
+use mathlib.Core.Bool.{Bool, true, false, cond, not, _&&_}
 use mathlib.Core.List.{List}
 use Prim.Native.Nat.{ℕ, _+_, _<_, _≤_}
 use lib.Dec.{eqb, ltb}
-use lib.ListN.{getD}
+use lib.ListN.{length, getD}
 use Rattle.ancestors.specs.Ancestors.{has, own}
 use Rattle.network.specs.Network.{Net}
 use Rattle.network.specs.Round.{Marks, marked, some, everyArc}
 use Rattle.network.specs.Arcs.{senders}
-use Rattle.memory.specs.Layout.{look, view, rowLabels, rowLists}
+use Rattle.memory.specs.Layout.{look, view, rowLabels, rowLists, arcBits}
 
 -- n is the number of nodes
 pub record Nodes (xs : List ℕ) (n : ℕ) : Type 0 where
@@ -33,11 +33,20 @@ pub record OnArc (xs : List ℕ) (s r : ℕ) (t : Bool) : Type 0 where
 
 -- every bit of the word w is an arc to r
 pub record OnArcs (xs : List ℕ) (r w : ℕ) : Type 0 where
-  pub arc : (s : ℕ) → s < 32 → has w s ≡ true → everyArc (view xs) s r ≡ true
+  pub arc : (s : ℕ) → s < view xs .nodes → has w s ≡ true → everyArc (view xs) s r ≡ true
 
--- every mark lies on an arc
-pub record Marked (xs ms : List ℕ) : Type 0 where
-  pub arc : (s r : ℕ) → marked ms s r ≡ true → everyArc (view xs) s r ≡ true
+-- the arcs that are heard: all of them in a full round, and else those marked
+unfoldable pub given : Net → Bool → List ℕ → Marks
+given x full ms = cond full (everyArc x) (marked ms)
+
+-- they are arcs, and marks are 32 words
+pub record Given (xs : List ℕ) (full : Bool) (ms : List ℕ) : Type 0 where
+  pub arc : (s r : ℕ) → given (view xs) full ms s r ≡ true → everyArc (view xs) s r ≡ true
+  pub long : full ≡ false → length ms ≡ 32
+
+-- the word w has a bit for each sender that r hears
+pub record RowWord (x : Net) (full : Bool) (ms : List ℕ) (r w : ℕ) : Type 0 where
+  pub bit : (s : ℕ) → s < x .nodes → has w s ≡ given x full ms s r
 
 -- the pair s, r alone, where t holds
 unfoldable pub oneMark : ℕ → ℕ → Bool → Marks
@@ -47,10 +56,6 @@ oneMark s r t a b = eqb a s && (eqb b r && t)
 unfoldable pub rowMarks : ℕ → ℕ → ℕ → Marks
 rowMarks r w k s y = eqb y r && (ltb s k && has w s)
 
--- the marks of the receivers below k on the senders below n
-unfoldable pub wordMarks : List ℕ → ℕ → ℕ → Marks
-wordMarks ms n k s y = ltb y k && (ltb s n && has (getD ms y 0) s)
-
 -- a bit of the word w is not in the word m
 unfoldable pub outside : ℕ → ℕ → Bool
 outside w m = some (λ s. has w s && not (has m s)) 32
@@ -59,6 +64,6 @@ outside w m = some (λ s. has w s && not (has m s)) 32
 unfoldable pub strayRows : ℕ → List ℕ → ℕ → Bool
 strayRows n ms k = some (λ r. outside (getD ms r 0) (senders n r)) k
 
--- a mark of a receiver below k is not in its word of arcs
+-- a mark of a receiver below k is not in the word of its arcs
 unfoldable pub idleRows : List ℕ → List ℕ → ℕ → Bool
-idleRows arcs ms k = some (λ r. outside (getD ms r 0) (getD arcs r 0)) k
+idleRows xs ms k = some (λ r. outside (getD ms r 0) (look xs (arcBits + r))) k

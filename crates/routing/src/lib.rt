@@ -17,12 +17,12 @@ ghost use mathlib.Core.Logic.{_≢_};
 ghost use mathlib.Core.Bool.{cond};
 ghost use lib.ListN.{length};
 ghost use Rattle.network.specs.Network.{withRow};
-ghost use Rattle.network.specs.Round.{choice, marked, hear, renew, round, roundOf, fullRoundOf};
+ghost use Rattle.network.specs.Round.{choice, hear, renew, round, roundOf, fullRoundOf};
 ghost use Rattle.network.specs.Words.{chosen, choiceMeans};
 ghost use Rattle.memory.specs.Layout.{wordCount, view, rowOf};
 ghost use Rattle.memory.specs.Inner.{Node};
 ghost use Rattle.memory.specs.Answers.{Leaves};
-ghost use Rattle.routing.specs.Inner.{Nodes, Primed, Hears, OnArc, OnArcs, Marked, oneMark, rowMarks, wordMarks, outside, strayRows, idleRows};
+ghost use Rattle.routing.specs.Inner.{Nodes, Primed, Hears, OnArc, OnArcs, Given, RowWord, given, oneMark, rowMarks, outside, strayRows, idleRows};
 
 // ---- hearing
 
@@ -74,16 +74,30 @@ fn hear_row(net: &mut [u32], n: usize, receiver: usize, word: u32)
     }
 }
 
-fn hear_marks(net: &mut [u32], n: usize, marks: &[u32])
+// The marks of a receiver, as a word: those given, or in a full round its arcs.
+fn row_word(net: &[u32], n: usize, full: bool, marks: &[u32], receiver: usize) -> u32
+    requires { ⌜ length (now net) ≡ wordCount ⌝ }
+    requires { ⌜ Nodes (now net) n ⌝ }
+    requires { ⌜ Given (now net) full (now marks) ⌝ }
+    requires { ⌜ Node (now net) receiver ⌝ }
+    ensures { λ w. ⌜ RowWord (view (now (net .entry))) full (now (marks .entry)) receiver w ⌝ }
+{
+    if full {
+        return ancestors::left_out(net[ARCS + receiver], receiver as u32);
+    }
+    marks[receiver]
+}
+
+fn hear_marks(net: &mut [u32], n: usize, full: bool, marks: &[u32])
     requires { ⌜ length (now net) ≡ wordCount ⌝ }
     requires { ⌜ Primed (now net) ⌝ }
     requires { ⌜ Nodes (now net) n ⌝ }
-    requires { ⌜ length (now marks) ≡ 32 ⌝ }
-    requires { ⌜ Marked (now net) (now marks) ⌝ }
-    ensures { λ _. ⌜ Hears (now (net .exit)) (hear (wordMarks (now (marks .entry)) n n) (view (now (net .entry)))) ⌝ }
+    requires { ⌜ Given (now net) full (now marks) ⌝ }
+    ensures { λ _. ⌜ Hears (now (net .exit)) (hear (given (view (now (net .entry))) full (now (marks .entry))) (view (now (net .entry)))) ⌝ }
 {
     for r in 0..n {
-        hear_row(net, n, r, marks[r]);
+        let word = row_word(net, n, full, marks, r);
+        hear_row(net, n, r, word);
     }
 }
 
@@ -151,16 +165,15 @@ fn renew_rows(net: &mut [u32], n: usize)
     }
 }
 
-// Hears the marks, and then gives every node but the origin a new row.
-fn advance(net: &mut [u32], n: usize, marks: &[u32])
+// Hears the marks, or every arc, and then gives every node but the origin a new row.
+fn advance(net: &mut [u32], n: usize, full: bool, marks: &[u32])
     requires { ⌜ length (now net) ≡ wordCount ⌝ }
     requires { ⌜ Nodes (now net) n ⌝ }
-    requires { ⌜ length (now marks) ≡ 32 ⌝ }
-    requires { ⌜ Marked (now net) (now marks) ⌝ }
-    ensures { λ _. ⌜ view (now (net .exit)) ≡ round (marked (now (marks .entry))) (view (now (net .entry))) ⌝ }
+    requires { ⌜ Given (now net) full (now marks) ⌝ }
+    ensures { λ _. ⌜ view (now (net .exit)) ≡ round (given (view (now (net .entry))) full (now (marks .entry))) (view (now (net .entry))) ⌝ }
 {
     prime(net, n);
-    hear_marks(net, n, marks);
+    hear_marks(net, n, full, marks);
     renew_rows(net, n);
 }
 
@@ -186,14 +199,14 @@ fn stray_marks(n: u32, marks: &[u32]) -> bool
 }
 
 // Whether a mark has no arc.
-fn idle_marks(arcs: &[u32], marks: &[u32]) -> bool
-    requires { ⌜ length (now arcs) ≡ 32 ⌝ }
+fn idle_marks(net: &[u32], marks: &[u32]) -> bool
+    requires { ⌜ length (now net) ≡ wordCount ⌝ }
     requires { ⌜ length (now marks) ≡ 32 ⌝ }
-    ensures { λ b. ⌜ b ≡ idleRows (now (arcs .entry)) (now (marks .entry)) 32 ⌝ }
+    ensures { λ b. ⌜ b ≡ idleRows (now (net .entry)) (now (marks .entry)) 32 ⌝ }
 {
     let mut found = false;
     for r in 0usize..32 {
-        found = rule::or(found, outside(marks[r], arcs[r]));
+        found = rule::or(found, outside(marks[r], net[ARCS + r]));
     }
     found
 }
@@ -212,20 +225,19 @@ pub fn round(net: &mut Network, marks: &[u32]) -> u8
     if stray_marks(n, marks) {
         return 3;
     }
-    let arcs = memory::arc_words(net);
-    if idle_marks(&arcs, marks) {
+    if idle_marks(net, marks) {
         return 7;
     }
-    advance(net, n as usize, marks);
+    advance(net, n as usize, false, marks);
     0
 }
 
-// A round with every arc heard: its marks are the arcs' words. It is never refused: it answers 0.
+// A round with every arc heard: each receiver's marks are the word of its arcs. It is never refused: it answers 0.
 pub fn full_round(net: &mut Network) -> u8
     ensures { λ k. ⌜ Leaves (fullRoundOf (view (now (net .entry)))) k (now (net .entry)) (now (net .exit)) ⌝ }
 {
     let n = memory::nodes(net);
-    let arcs = memory::arc_words(net);
-    advance(net, n as usize, &arcs);
+    let none = [0u32; 1];
+    advance(net, n as usize, true, &none);
     0
 }

@@ -1,4 +1,4 @@
--- `routing::idle_marks` meets its contract. The loop's invariant: `found` says whether a receiver passed has a mark that is not in its word of arcs.
+-- `routing::idle_marks` meets its contract. The loop's invariant: `found` says whether a receiver passed has a mark that is not in the word of its arcs.
 -- Assumes nothing.
 use borrow.Author.Needs.{needs}
 use native.Mathlib.Omega.{arith}
@@ -12,10 +12,10 @@ use Rattle.routing.proofs.idle_marks.Statement.{statement}
 use Rattle.routing.proofs.idle_marks.Tie as tie
 
 abbrev Inv-loop : tie.InvT-loop
-Inv-loop arcs marks found₀ r₀ found r = (found ≡ idleRows arcs marks r) × (r ≤ 32)
+Inv-loop net marks found₀ r₀ found r = (found ≡ idleRows net marks r) × (r ≤ 32)
 
 abbrev μ-loop : tie.MeasureT-loop
-μ-loop arcs marks found₀ r₀ found r = 32 - r
+μ-loop net marks found₀ r₀ found r = 32 - r
 
 loop-holds : tie.Need-loop-holds Inv-loop μ-loop
 unfolding idleRows some
@@ -30,7 +30,7 @@ loop-again c =
 returns : tie.Need-returns Inv-loop μ-loop
 returns c =
     let a = c .before .before .before .before .args in
-    c .before .loop .inv .0 ∙ ap (idleRows (now (a .arcs)) (now (a .marks))) (omega arith)
+    c .before .loop .inv .0 ∙ ap (idleRows (now (a .net)) (now (a .marks))) (omega arith)
 
 pub idle-marks-spec : {M : Type 1} → statement M
 idle-marks-spec =
@@ -39,6 +39,7 @@ idle-marks-spec =
     Inv-loop
     μ-loop
     loop-holds
+    (λ c. omega arith)
     (λ c. omega arith)
     (λ c. omega arith)
     (λ c. omega arith)

@@ -1,13 +1,10 @@
 -- `routing::round` meets its contract: each refusal in its order, else hearing and then new rows.
 -- Assumes nothing.
 use borrow.Author.Needs.{needs}
-use mathlib.Core.Path.{sym, ap, _∙_}
-use lib.ListN.{length}
+use mathlib.Core.Path.{sym, _∙_}
 use denote.Ref.{now}
-use Rattle.network.proofs.Arcs.{arc-words-long}
-use Rattle.memory.specs.Layout.{view}
 use Rattle.routing.proofs.Hearing.{nodes-count}
-use Rattle.routing.proofs.Rounding.{round-cut, round-stray, round-idle, round-marked, round-done}
+use Rattle.routing.proofs.Rounding.{round-cut, round-stray, round-idle, round-given, round-done}
 use Rattle.routing.proofs.round.Statement.{statement}
 use Rattle.routing.proofs.round.Tie as tie
 
@@ -20,47 +17,32 @@ returns-2 c =
     let n = c .before .before .nodes in
     round-stray (now (a .net)) (now (a .marks)) (n .result) (n .ensures) (c .before .before .before .before .if1 .left) (sym (c .before .stray-marks .ensures) ∙ c .if2 .taken)
 
-idle-marks-requires : tie.Need-idle-marks-requires
-idle-marks-requires c κs =
-    let w = now (c .before .before .before .before .before .before .before .before .before .args .net) in
-    (ap length (c .before .arc-words .ensures) ∙ arc-words-long (view w), c .before .before .before .before .before .before .before .if1 .left)
-
 returns-3 : tie.Need-returns-3
 returns-3 c =
-    let a = c .before .before .before .before .before .before .before .before .before .before .before .args in
-    let n = c .before .before .before .before .before .before .before .nodes in
-    let arcs = c .before .before .before .arc-words in
-    round-idle (now (a .net)) (now (a .marks)) (n .result) (n .ensures) (c .before .before .before .before .before .before .before .before .before .if1 .left)
-    (sym (c .before .before .before .before .before .before .stray-marks .ensures) ∙ c .before .before .before .before .before .if2 .left) (arcs .result) (arcs .ensures)
-    (sym (c .before .idle-marks .ensures) ∙ c .if3 .taken)
+    let a = c .before .before .before .before .before .before .before .before .before .before .args in
+    let n = c .before .before .before .before .before .before .nodes in
+    round-idle (now (a .net)) (now (a .marks)) (n .result) (n .ensures) (c .before .before .before .before .before .before .before .before .if1 .left)
+    (sym (c .before .before .before .before .before .stray-marks .ensures) ∙ c .before .before .before .before .if2 .left) (sym (c .before .idle-marks .ensures) ∙ c .if3 .taken)
 
 advance-requires : tie.Need-advance-requires
 advance-requires c κs =
-    let a = c .before .before .before .before .before .before .before .before .before .before .before .before .args in
+    let a = c .before .before .before .before .before .before .before .before .before .before .before .args in
     let w = now (a .net) in
-    let n = c .before .before .before .before .before .before .before .before .nodes in
-    let arcs = c .before .before .before .before .arc-words in
-    let long = c .before .before .before .before .before .before .before .before .before .before .if1 .left in (
+    let n = c .before .before .before .before .before .before .before .nodes in (
       search needs,
       (
         nodes-count w (n .result) (n .ensures),
-        (
-          long,
-          round-marked w (now (a .marks)) (n .result) (n .ensures) long
-              (sym (c .before .before .before .before .before .before .before .stray-marks .ensures) ∙ c .before .before .before .before .before .before .if2 .left) (arcs .result) (arcs .ensures)
-              (sym (c .before .before .idle-marks .ensures) ∙ c .before .if3 .left),
-        ),
+        round-given w (now (a .marks)) (n .result) (n .ensures) (c .before .before .before .before .before .before .before .before .before .if1 .left) (sym (c .before .before .before .before .before .before .stray-marks .ensures) ∙ c .before .before .before .before .before .if2 .left)
+            (sym (c .before .before .idle-marks .ensures) ∙ c .before .if3 .left),
       ),
     )
 
 returns-4 : tie.Need-returns-4
 returns-4 c =
-    let a = c .before .before .before .before .before .before .before .before .before .before .before .before .before .args in
-    let n = c .before .before .before .before .before .before .before .before .before .nodes in
-    let arcs = c .before .before .before .before .before .arc-words in
-    round-done (now (a .net)) (now (a .marks)) (n .result) (n .ensures) (c .before .before .before .before .before .before .before .before .before .before .before .if1 .left)
-    (sym (c .before .before .before .before .before .before .before .before .stray-marks .ensures) ∙ c .before .before .before .before .before .before .before .if2 .left) (arcs .result) (arcs .ensures)
-    (sym (c .before .before .before .idle-marks .ensures) ∙ c .before .before .if3 .left) (c .advance .last .0) (c .advance .ensures)
+    let a = c .before .before .before .before .before .before .before .before .before .before .before .before .args in
+    let n = c .before .before .before .before .before .before .before .before .nodes in
+    round-done (now (a .net)) (now (a .marks)) (n .result) (n .ensures) (c .before .before .before .before .before .before .before .before .before .before .if1 .left)
+    (sym (c .before .before .before .before .before .before .before .stray-marks .ensures) ∙ c .before .before .before .before .before .before .if2 .left) (sym (c .before .before .before .idle-marks .ensures) ∙ c .before .before .if3 .left) (c .advance .last .0) (c .advance .ensures)
 
 pub round-spec : {M : Type 1} → statement M
 round-spec =
@@ -71,8 +53,6 @@ round-spec =
     (λ c κs. search needs)
     returns-2
     (λ c κs. search needs)
-    (λ c. search needs)
-    idle-marks-requires
     returns-3
     (λ c. search needs)
     advance-requires
