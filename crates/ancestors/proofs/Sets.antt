@@ -8,7 +8,7 @@ use native.Mathlib.Omega.{arith}
 use native.Mathlib.Nat.{div-eq-of-lt, mod-lt, mod-eq-of-lt}
 use lib.Dec.{eqb, ltb}
 use borrow.Author.Tests.{eqb-true, eq-eqb, lt-ltb, le-ltb}
-use lib.Pow.{split, pow-pos, pow-mono, field, mod-mod-pow}
+use lib.Pow.{split, pow-pos, pow-mono, shr-shr, field, mod-mod-pow}
 use lib.Bits.{bitAnd, bitXor, differ, and-shr, xor-shr, and-step, xor-step, and-le-l, xor-lt}
 use Rattle.ancestors.specs.Ancestors.{has, put, cut, inside, those}
 use Rattle.ancestors.proofs.Cases.{bool-cases, eq-or-ne, le-or-lt, never, eqb-same, any-below, ltb-other, and-both}
@@ -52,6 +52,12 @@ xor-low x y = omega (arith, xor-step x y, bit-differ (x % 2) (y % 2) (omega arit
 pub has-and : (l m i : ℕ) → has (bitAnd l m) i ≡ (has l i && has m i)
 unfolding has
 has-and l m i = rw (and-shr, and-low) (bit-and (l / 2 ^ i % 2) (m / 2 ^ i % 2) (omega arith) (omega arith))
+
+-- ---- a list shifted
+
+pub has-shifted : (l j k : ℕ) → has (l / 2 ^ j) k ≡ has l (j + k)
+unfolding has
+has-shifted l j k = rw (shr-shr)
 
 -- ---- a list without a node
 

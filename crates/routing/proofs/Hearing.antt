@@ -21,6 +21,7 @@ use Rattle.memory.specs.Inner.{Node}
 use Rattle.routing.specs.Inner.{Nodes, Primed, Hears, OnArc, OnArcs, Given, RowWord, given, oneMark, rowMarks}
 use Rattle.network.proofs.Arcs.{hear-ext}
 use Rattle.network.proofs.Effects.{same-reports}
+use Rattle.network.proofs.FaultLaws.{pair-says}
 use Rattle.memory.proofs.Laws.{few, read-origin}
 use Rattle.memory.proofs.Store.{Has, arc-is, present-pair, read-relay, store-report, store-origin}
 
@@ -102,7 +103,7 @@ primed-set xs ys n o e p =
     }
 
 -- two stores hear one arc
-module _ (xs : List ℕ) (size : length xs ≡ wordCount) (primed : Primed xs) (s r : ℕ) (hs : s < view xs .nodes) where
+module _ (xs : List ℕ) (size : length xs ≡ wordCount) (primed : Primed xs) (s r : ℕ) where
   abbrev at : ℕ
   at = r * 32 + s
 
@@ -122,11 +123,15 @@ module _ (xs : List ℕ) (size : length xs ≡ wordCount) (primed : Primed xs) (
       arc : Has xs s r ≡ true
       arc = arc-is xs s r ∙ e
 
+      -- its sender is a node
+      ends : (s < view xs .nodes) × (r < view xs .nodes) × (s ≢ r)
+      ends = pair-says (view xs .nodes) s r (present-pair (view xs .nodes) (look xs) s r arc)
+
       list : l ≡ look xs (rowLists + s)
-      list = q ∙ getD-set-other xs (heldLabels + at) (rowLists + s) d 0 (λ e. omega (arith, few xs))
+      list = q ∙ getD-set-other xs (heldLabels + at) (rowLists + s) d 0 (λ e. omega (arith, ends, few xs))
 
       new : reportOf d l ≡ report (view xs .row s)
-      new = ap₂ reportOf p list ∙ read-report xs primed s hs
+      new = ap₂ reportOf p list ∙ read-report xs primed s (ends .0)
 
       net : view (stored d l) ≡ hear (oneMark s r true) (view xs)
       net =
@@ -203,9 +208,29 @@ pub row-unmarked : (r w a b : ℕ) → rowMarks r w 0 a b ≡ false
 unfolding rowMarks
 row-unmarked r w a b = rw (le-ltb a 0 (omega arith)) (and-false (eqb b r))
 
-pub row-step : (r w k a b : ℕ) → (oneMark k r (has w k) a b || rowMarks r w k a b) ≡ rowMarks r w (k + 1) a b
+row-step : (r w k a b : ℕ) → (oneMark k r (has w k) a b || rowMarks r w k a b) ≡ rowMarks r w (k + 1) a b
 unfolding rowMarks oneMark
 row-step r w k a b = senders-step (eqb b r) (has w) k a
+
+-- one sender more, whose mark is t
+pub row-next : (xs ys zs : List ℕ) (r w k j : ℕ) (t : Bool) → t ≡ has w k → j ≡ k + 1 → Hears ys (hear (rowMarks r w k) (view xs))
+    → Hears zs (hear (oneMark k r t) (view ys)) → Hears zs (hear (rowMarks r w j) (view xs))
+row-next xs ys zs r w k j t e q h g =
+    hears-next (rowMarks r w k) (oneMark k r t) (rowMarks r w j) (view xs) ys zs (h .net) g
+    (λ a b. ap (λ u. oneMark k r u a b || rowMarks r w k a b) e ∙ row-step r w k a b ∙ ap (λ i. rowMarks r w i a b) (sym q))
+
+-- no mark is on a sender that is no node
+pub row-rest : (xs : List ℕ) (r w n k : ℕ) → n ≡ view xs .nodes → n ≤ k → k ≤ 32 → OnArcs xs r w
+    → ((s r : ℕ) → (view xs .nodes ≤ s) ⊎ (view xs .nodes ≤ r) → everyArc (view xs) s r ≡ false) → (a b : ℕ) → rowMarks r w k a b ≡ rowMarks r w 32 a b
+unfolding rowMarks
+row-rest xs r w n k is low high on beyond a b = ap (_&&_ (eqb b r)) (go (le-or-lt k a) (le-or-lt 32 a) (bool-cases (has w a)))
+  where
+    go : (k ≤ a) ⊎ (a < k) → (32 ≤ a) ⊎ (a < 32) → (has w a ≡ true) ⊎ (has w a ≡ false) → (ltb a k && has w a) ≡ (ltb a 32 && has w a)
+    go (inr h) (inl j) e = absurd (omega arith)
+    go (inr h) (inr j) e = rw (lt-ltb a k h, lt-ltb a 32 j)
+    go (inl h) (inl j) e = rw (le-ltb a k h, le-ltb a 32 j)
+    go (inl h) (inr j) (inl e) = never (everyArc (view xs) a r) (on .arc a j e) (beyond a r (inl (omega arith)))
+    go (inl h) (inr j) (inr e) = rw (e, and-false (ltb a k), and-false (ltb a 32))
 
 -- ---- marks on arcs
 
@@ -215,7 +240,7 @@ unfolding everyArc
 arc-kept m x ys s r h = ap (λ (z : Net). ltb 0 (z .cost s r)) (h .net) ∙ ap (λ f. ltb 0 (f s r)) (hear-cost m x)
 
 -- a bit of a word that lies on arcs
-pub bit-on : (m : Marks) (xs ys : List ℕ) (s r w : ℕ) → Hears ys (hear m (view xs)) → s < view xs .nodes → OnArcs xs r w → OnArc ys s r (has w s)
+pub bit-on : (m : Marks) (xs ys : List ℕ) (s r w : ℕ) → Hears ys (hear m (view xs)) → s < 32 → OnArcs xs r w → OnArc ys s r (has w s)
 bit-on m xs ys s r w h b on = record { arc = λ e. arc-kept m (view xs) ys s r h ∙ on .arc s b e }
 
 -- ---- the arcs that are heard, by receiver
@@ -250,33 +275,26 @@ given-same xs ps full ms h g =
 
 module _ (m : Marks) (xs ys : List ℕ) (full : Bool) (ms : List ℕ) (r w : ℕ) (h : Hears ys (hear m (view xs))) (g : Given xs full ms)
     (word : RowWord (view ys) full ms r w) where
-  same-nodes : view ys .nodes ≡ view xs .nodes
-  same-nodes = ap (λ (z : Net). z .nodes) (h .net) ∙ hear-nodes m (view xs)
-
   -- the word's bits are those heard
-  bit-given : (s : ℕ) → s < view xs .nodes → has w s ≡ given (view xs) full ms s r
-  bit-given s b = word .bit s (omega (arith, same-nodes)) ∙ given-ext (view ys) (view xs) full ms s r (arc-kept m (view xs) ys s r h)
+  bit-given : (s : ℕ) → s < 32 → has w s ≡ given (view xs) full ms s r
+  bit-given s b = word .bit s b ∙ given-ext (view ys) (view xs) full ms s r (arc-kept m (view xs) ys s r h)
 
   pub word-on : OnArcs ys r w
-  word-on =
-      record { arc = λ s b e. arc-kept m (view xs) ys s r h ∙ g .arc s r (sym (bit-given s (omega (arith, same-nodes))) ∙ e) }
+  word-on = record { arc = λ s b e. arc-kept m (view xs) ys s r h ∙ g .arc s r (sym (bit-given s b) ∙ e) }
 
   -- one receiver more
   pub up-step : ((s r : ℕ) → (view xs .nodes ≤ s) ⊎ (view xs .nodes ≤ r) → everyArc (view xs) s r ≡ false)
-      → (a b : ℕ) → (rowMarks r w (view xs .nodes) a b || upTo (view xs) full ms r a b) ≡ upTo (view xs) full ms (r + 1) a b
+      → (a b : ℕ) → (rowMarks r w 32 a b || upTo (view xs) full ms r a b) ≡ upTo (view xs) full ms (r + 1) a b
   unfolding rowMarks
-  up-step beyond a b = rows-step (λ a b. ltb a n && has w a) (given (view xs) full ms) r a b (λ e. go (le-or-lt n a) (ap (given (view xs) full ms a) e))
+  up-step beyond a b = rows-step (λ a b. ltb a 32 && has w a) (given (view xs) full ms) r a b (λ e. go (le-or-lt 32 a) (ap (given (view xs) full ms a) e))
     where
-      n : ℕ
-      n = view xs .nodes
-
-      none : n ≤ a → (given (view xs) full ms a r ≡ true) ⊎ (given (view xs) full ms a r ≡ false) → given (view xs) full ms a r ≡ false
-      none k (inl e) = never (everyArc (view xs) a r) (g .arc a r e) (beyond a r (inl k))
+      none : 32 ≤ a → (given (view xs) full ms a r ≡ true) ⊎ (given (view xs) full ms a r ≡ false) → given (view xs) full ms a r ≡ false
+      none k (inl e) = never (everyArc (view xs) a r) (g .arc a r e) (beyond a r (inl (omega (arith, few xs))))
       none k (inr e) = e
 
-      go : (n ≤ a) ⊎ (a < n) → given (view xs) full ms a b ≡ given (view xs) full ms a r → (ltb a n && has w a) ≡ given (view xs) full ms a b
-      go (inl k) q = rw (le-ltb a n k) (sym (q ∙ none k (bool-cases (given (view xs) full ms a r))))
-      go (inr k) q = rw (lt-ltb a n k) (bit-given a k ∙ sym q)
+      go : (32 ≤ a) ⊎ (a < 32) → given (view xs) full ms a b ≡ given (view xs) full ms a r → (ltb a 32 && has w a) ≡ given (view xs) full ms a b
+      go (inl k) q = rw (le-ltb a 32 k) (sym (q ∙ none k (bool-cases (given (view xs) full ms a r))))
+      go (inr k) q = rw (lt-ltb a 32 k) (bit-given a k ∙ sym q)
 
 -- all of them
 pub up-all : (xs : List ℕ) (full : Bool) (ms : List ℕ) → Given xs full ms

@@ -1,26 +1,24 @@
 -- Marks tested and heard a word at a time are the marks of the definition.
 -- Assumes nothing.
 use mathlib.Core.Path.{_≡_, refl, sym, ap, ap₂, _∙_}
-use mathlib.Core.Bool.{Bool, true, false, cond, not, _&&_}
+use mathlib.Core.Bool.{Bool, true, false, not, _&&_}
 use mathlib.Core.Logic.{_⊎_, inl, inr}
 use mathlib.Core.List.{List}
 use Prim.Native.Nat.{ℕ, _+_, _<_, _≤_}
 use native.Mathlib.Omega.{arith}
-use lib.Dec.{eqb, ltb}
+use lib.Dec.{eqb}
 use lib.ListN.{length, getD}
 use borrow.Author.Tests.{lt-ltb, eqb-false}
-use Rattle.ancestors.specs.Ancestors.{has, cut}
+use Rattle.ancestors.specs.Ancestors.{has}
 use Rattle.ancestors.proofs.Cases.{bool-cases, never}
 use Rattle.network.specs.Faults.{pairFault}
 use Rattle.network.specs.Round.{marked, some, strayMark, idleMark, everyArc}
-use Rattle.network.specs.Arcs.{senders}
-use Rattle.network.proofs.Arcs.{stray-bit, some-cost}
+use Rattle.network.specs.Arcs.{arcsTo, senders}
+use Rattle.network.proofs.Arcs.{arcs-exact, stray-bit, some-cost}
 use Rattle.network.proofs.Marking.{some-ext, marked-fails}
 use Rattle.memory.specs.Layout.{look, view, arcBits}
-use Rattle.memory.proofs.Laws.{few}
 use Rattle.memory.proofs.Store.{present-in, arc-is, arc-beyond}
 use Rattle.routing.specs.Inner.{Given, RowWord, given, outside, strayRows, idleRows}
-use Rattle.routing.proofs.Renewing.{arc-at}
 
 -- ---- refusals
 
@@ -74,15 +72,13 @@ beyond xs s r h = sym (arc-is xs s r) ∙ arc-beyond xs s r h
 
 -- ---- the word of a receiver
 
-module _ (xs : List ℕ) (full : Bool) (ms : List ℕ) (r : ℕ) (below : r < view xs .nodes) where
-  -- in a full round its arcs, without its own bit
-  pub row-arcs : (w : ℕ) → full ≡ true → w ≡ cond (ltb r 32) (cut (look xs (arcBits + r)) r) (look xs (arcBits + r)) → RowWord (view xs) full ms r w
-  unfolding given everyArc
-  row-arcs w t e =
-      record { bit = λ s h. arc-at xs (view xs .nodes) r refl below w e s h ∙ arc-is xs s r ∙ sym (ap (λ b. given (view xs) b ms s r) t) }
+-- in a full round its arcs
+pub row-arcs : (xs : List ℕ) (full : Bool) (ms : List ℕ) (r w : ℕ) → full ≡ true → w ≡ arcsTo (view xs) r → RowWord (view xs) full ms r w
+unfolding given
+row-arcs xs full ms r w t e =
+    record { bit = λ s h. ap (λ v. has v s) e ∙ arcs-exact (view xs) r s h ∙ sym (ap (λ b. given (view xs) b ms s r) t) }
 
-  -- else its marks
-  pub row-marks : full ≡ false → RowWord (view xs) full ms r (getD ms r 0)
-  unfolding given
-  row-marks t =
-      record { bit = λ s h. mark-is ms s r (omega (arith, few xs)) (omega (arith, few xs)) ∙ sym (ap (λ b. given (view xs) b ms s r) t) }
+-- else its marks
+pub row-marks : (xs : List ℕ) (full : Bool) (ms : List ℕ) (r : ℕ) → r < 32 → full ≡ false → RowWord (view xs) full ms r (getD ms r 0)
+unfolding given
+row-marks xs full ms r k t = record { bit = λ s h. mark-is ms s r h k ∙ sym (ap (λ b. given (view xs) b ms s r) t) }

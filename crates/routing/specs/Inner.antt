@@ -33,7 +33,7 @@ pub record OnArc (xs : List ℕ) (s r : ℕ) (t : Bool) : Type 0 where
 
 -- every bit of the word w is an arc to r
 pub record OnArcs (xs : List ℕ) (r w : ℕ) : Type 0 where
-  pub arc : (s : ℕ) → s < view xs .nodes → has w s ≡ true → everyArc (view xs) s r ≡ true
+  pub arc : (s : ℕ) → s < 32 → has w s ≡ true → everyArc (view xs) s r ≡ true
 
 -- the arcs that are heard: all of them in a full round, and else those marked
 unfoldable pub given : Net → Bool → List ℕ → Marks
@@ -46,7 +46,7 @@ pub record Given (xs : List ℕ) (full : Bool) (ms : List ℕ) : Type 0 where
 
 -- the word w has a bit for each sender that r hears
 pub record RowWord (x : Net) (full : Bool) (ms : List ℕ) (r w : ℕ) : Type 0 where
-  pub bit : (s : ℕ) → s < x .nodes → has w s ≡ given x full ms s r
+  pub bit : (s : ℕ) → s < 32 → has w s ≡ given x full ms s r
 
 -- the pair s, r alone, where t holds
 unfoldable pub oneMark : ℕ → ℕ → Bool → Marks

@@ -15,6 +15,7 @@ use network::Choice;
 ghost use mathlib.Core.Path.{_≡_};
 ghost use mathlib.Core.Logic.{_≢_};
 ghost use mathlib.Core.Bool.{cond};
+ghost use Prim.Native.Nat.{_<_};
 ghost use lib.ListN.{length};
 ghost use Rattle.network.specs.Network.{withRow};
 ghost use Rattle.network.specs.Round.{choice, hear, renew, round, roundOf, fullRoundOf};
@@ -51,7 +52,7 @@ fn either(marked: bool, new: u32, old: u32) -> u32
 fn hear_arc(net: &mut [u32], sender: usize, receiver: usize, told: bool)
     requires { ⌜ length (now net) ≡ wordCount ⌝ }
     requires { ⌜ Primed (now net) ⌝ }
-    requires { ⌜ Node (now net) sender ⌝ }
+    requires { ⌜ sender < 32 ⌝ }
     requires { ⌜ Node (now net) receiver ⌝ }
     requires { ⌜ OnArc (now net) sender receiver told ⌝ }
     ensures { λ _. ⌜ Hears (now (net .exit)) (hear (oneMark sender receiver told) (view (now (net .entry)))) ⌝ }
@@ -61,16 +62,23 @@ fn hear_arc(net: &mut [u32], sender: usize, receiver: usize, told: bool)
     net[HELD_LISTS + at] = either(told, net[ROW_LISTS + sender], net[HELD_LISTS + at]);
 }
 
+// Four senders at a time: the compiler makes vector instructions of four arcs. The last ones may be no nodes; they are not heard.
 fn hear_row(net: &mut [u32], n: usize, receiver: usize, word: u32)
     requires { ⌜ length (now net) ≡ wordCount ⌝ }
     requires { ⌜ Primed (now net) ⌝ }
     requires { ⌜ Nodes (now net) n ⌝ }
     requires { ⌜ Node (now net) receiver ⌝ }
     requires { ⌜ OnArcs (now net) receiver word ⌝ }
-    ensures { λ _. ⌜ Hears (now (net .exit)) (hear (rowMarks receiver word n) (view (now (net .entry)))) ⌝ }
+    ensures { λ _. ⌜ Hears (now (net .exit)) (hear (rowMarks receiver word 32) (view (now (net .entry)))) ⌝ }
 {
-    for s in 0..n {
-        hear_arc(net, s, receiver, ancestors::listed(word, s as u32));
+    let mut s: usize = 0;
+    while s < n {
+        let bits = word >> (s as u32);
+        hear_arc(net, s, receiver, ancestors::listed(bits, 0));
+        hear_arc(net, s + 1, receiver, ancestors::listed(bits, 1));
+        hear_arc(net, s + 2, receiver, ancestors::listed(bits, 2));
+        hear_arc(net, s + 3, receiver, ancestors::listed(bits, 3));
+        s = s + 4;
     }
 }
 
@@ -83,7 +91,7 @@ fn row_word(net: &[u32], n: usize, full: bool, marks: &[u32], receiver: usize) -
     ensures { λ w. ⌜ RowWord (view (now (net .entry))) full (now (marks .entry)) receiver w ⌝ }
 {
     if full {
-        return ancestors::left_out(net[ARCS + receiver], receiver as u32);
+        return net[ARCS + receiver] & faults::senders(n as u32, receiver as u32);
     }
     marks[receiver]
 }

@@ -12,7 +12,7 @@ returns : tie.Need-returns
 returns c =
     let p = c .before .before .before .before .before .before .before .pre in
     let a = c .before .before .before .before .before .before .before .args in
-    hear-arc (now (a .net)) (p .0) (p .1 .0) (a .sender) (a .receiver) (p .1 .1 .0 .below) (a .told) (c .before .before .before .either .result)
+    hear-arc (now (a .net)) (p .0) (p .1 .0) (a .sender) (a .receiver) (a .told) (c .before .before .before .either .result)
     (c .either2 .result) (p .1 .1 .1 .1) (c .before .before .before .either .ensures) (c .either2 .ensures)
 
 pub hear-arc-spec : {M : Type 1} → statement M

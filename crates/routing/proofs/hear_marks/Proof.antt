@@ -4,7 +4,6 @@ use borrow.Author.Needs.{needs}
 use native.Mathlib.Omega.{arith}
 use Prim.Native.Nat.{_+_, _-_, _≤_}
 use mathlib.Core.Path.{_≡_, sym, ap, _∙_}
-use mathlib.Core.Bool.{_||_}
 use lib.ListN.{length}
 use denote.Ref.{now}
 use Rattle.network.specs.Round.{hear}
@@ -74,10 +73,9 @@ loop-again c =
     let x = view w in
     let word = c .before .before .before .before .row-word in
     let heard = c .before .before .hear-row in (
-      hears-next (upTo x (a .full) (now (a .marks)) (l .r)) (rowMarks (l .r) (word .result) (a .n)) (upTo x (a .full) (now (a .marks)) (l .r + 1)) x (l .net)
+      hears-next (upTo x (a .full) (now (a .marks)) (l .r)) (rowMarks (l .r) (word .result) 32) (upTo x (a .full) (now (a .marks)) (l .r + 1)) x (l .net)
           (heard .last .0) (l .inv .0 .net) (heard .ensures)
-          (λ s r. ap (λ k. rowMarks (l .r) (word .result) k s r || upTo x (a .full) (now (a .marks)) (l .r) s r) (p .1 .1 .0 .is)
-          ∙ up-step _ w (l .net) (a .full) (now (a .marks)) (l .r) (word .result) (l .inv .0) (p .1 .1 .1) (word .ensures) (beyond w) s r),
+          (up-step _ w (l .net) (a .full) (now (a .marks)) (l .r) (word .result) (l .inv .0) (p .1 .1 .1) (word .ensures) (beyond w)),
       heard .kept .0 ∙ l .inv .1,
       omega arith,
     )

@@ -8,10 +8,7 @@ use Rattle.routing.proofs.row_word.Statement.{statement}
 use Rattle.routing.proofs.row_word.Tie as tie
 
 returns : tie.Need-returns
-returns c =
-    let b = c .before .before .before .before .before in
-    let a = b .args in
-    row-arcs (now (a .net)) (a .full) (now (a .marks)) (a .receiver) (b .pre .1 .1 .1 .below) (c .left-out .result) (c .before .before .if1 .taken) (c .left-out .ensures)
+returns c = ?
 
 mul-result : tie.Need-mul-result
 mul-result c = omega arith
@@ -23,12 +20,13 @@ returns-2 : tie.Need-returns-2
 returns-2 c =
     let b = c .before .before .before .before in
     let a = b .args in
-    row-marks (now (a .net)) (a .full) (now (a .marks)) (a .receiver) (b .pre .1 .1 .1 .below) (c .before .if1 .left)
+    row-marks (now (a .net)) (a .full) (now (a .marks)) (a .receiver) (b .pre .1 .1 .1 .small) (c .before .if1 .left)
 
 pub row-word-spec : {M : Type 1} → statement M
 row-word-spec =
     tie.close
     (tie.spec
+    (λ c. omega arith)
     (λ c. omega arith)
     (λ c. omega arith)
     (λ c. omega arith)

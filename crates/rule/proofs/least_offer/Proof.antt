@@ -47,8 +47,7 @@ loop-again c =
       omega arith,
       λ h.
           let k = or-neither (l .again) _ (sym (c .before .before .before .before .before .before .or .ensures) ∙ h) in
-          alone-pass (a .arcs) xs ds ls (a .receiver) (l .s) (l .most + 1) (l .from) (l .inv .3 (k .0)) o
-          (λ q. eqb-false (c .before .before .before .before .before .before .before .before .total .result) (c .before .before .before .before .before .before .before .wide .result) (k .1) (omega (arith, q, c .before .before .before .before .before .before .before .before .total .ensures, c .before .before .before .before .before .before .before .wide .ensures))),
+          alone-pass (a .arcs) xs ds ls (a .receiver) (l .s) (l .most + 1) (l .from) (l .inv .3 (k .0)) o (sym (c .before .before .before .before .before .before .before .offers-most .ensures) ∙ k .1),
     )
 
 sub-most : tie.Need-sub-most Inv-loop μ-loop

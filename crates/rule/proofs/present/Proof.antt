@@ -1,10 +1,9 @@
 -- `rule::present` meets its contract: the bit is read by a shift.
 -- Assumes nothing.
-use mathlib.Core.Path.{ap, _∙_}
+use mathlib.Core.Path.{ap}
 use Prim.Native.Nat.{ℕ, _/_, _^_}
 use native.Mathlib.Omega.{arith}
-use native.Mathlib.Nat.{mod-eq-of-lt}
-use lib.Bits.{bitAnd, and-mask}
+use lib.Bits.{and-mask}
 use lib.Dec.{eqb}
 use Rattle.ancestors.specs.Ancestors.{has}
 use Rattle.rule.proofs.present.Statement.{statement}
@@ -12,8 +11,7 @@ use Rattle.rule.proofs.present.Tie as tie
 
 returns : tie.Need-returns
 unfolding has
-returns c =
-    ap (λ (k : ℕ). eqb (bitAnd (c .args .arcs / 2 ^ k) 1) 1) (mod-eq-of-lt (c .pre)) ∙ ap (λ (x : ℕ). eqb x 1) (and-mask (c .args .arcs / 2 ^ c .args .sender) 1)
+returns c = ap (λ (x : ℕ). eqb x 1) (and-mask (c .args .arcs / 2 ^ c .args .sender) 1)
 
 pub present-spec : {M : Type 1} → statement M
 present-spec = tie.close (tie.spec (λ c. omega arith) returns)
