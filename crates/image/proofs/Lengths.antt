@@ -1,20 +1,25 @@
--- Lengths of records, one after another.
+-- Lengths of records, and of records one after another.
 -- Assumes nothing.
 use mathlib.Core.Path.{_≡_, refl, sym, ap, _∙_}
-use mathlib.Core.List.{List, []}
-use Prim.Native.Nat.{ℕ, _+_, _*_, _-_, _<_, _≤_}
+use mathlib.Core.List.{List}
+use Prim.Native.Nat.{ℕ, zero, suc, _+_, _*_, _-_, _<_, _≤_}
+use native.Mathlib.Nat.{mul-le-mul}
 use native.Mathlib.Omega.{arith}
 use lib.ListN.{length, length-append}
-use Rattle.records.specs.Image.{each}
+use Rattle.network.specs.Faults.{maxNodes, nodeFault, pairFault}
+use Rattle.network.specs.Network.{Net}
+use Rattle.records.specs.Image.{each, arcBytes, rowBytes, reportBytes, maxPairs}
 use Rattle.records.specs.Records.{bodyLength, recordLength, arcRecord, rowRecord, reportRecord}
-use Rattle.records.proofs.Each.{each-split, each-next}
-use Rattle.records.proofs.Sizes.{arc-long, row-long, report-long}
-use Rattle.image.specs.Measured.{Measures}
+use Rattle.records.proofs.Each.{each-split, each-zero, each-next}
+use Rattle.records.proofs.Sizes.{arc-long, row-long, report-long, arc-most, row-most, report-most, kept-most}
+use Rattle.image.specs.Lines.{arcAt, rowAt, reportAt}
+use Rattle.image.specs.Measured.{sum}
+use Rattle.image.proofs.Sums.{sum-zero, sum-next}
 
 -- the lengths of records
-pub sizes : (recordLength 0 ≡ 1) × (recordLength 1 ≡ 3) × (recordLength 2 ≡ 5) × (recordLength 3 ≡ 11)
+pub sizes : (recordLength 0 ≡ 1) × (recordLength 1 ≡ 3) × (recordLength 2 ≡ 5) × (recordLength 3 ≡ 11) × (recordLength 4 ≡ 11)
 unfolding bodyLength
-sizes = (refl, refl, refl, refl)
+sizes = (refl, refl, refl, refl, refl)
 
 pub arc-size : (s r c : ℕ) → length (arcRecord s r c) ≡ recordLength 2
 unfolding bodyLength
@@ -28,12 +33,25 @@ pub report-size : (s r d l : ℕ) → length (reportRecord s r d l) ≡ recordLe
 unfolding bodyLength
 report-size s r d l = report-long s r d l
 
--- no record, and one of n bytes
-pub measures-none : {w : List ℕ} (m : ℕ) → w ≡ [] → Measures w m 0
-measures-none m p = record { exact = sym (ap length p); most = omega arith }
+-- what there is of an arc, a row or a report is one record at most
+module _ (x : Net) where
+  pub arc-at-most : (s r : ℕ) → length (arcAt x s r) ≤ recordLength 2
+  unfolding arcAt
+  arc-at-most s r = kept-most (recordLength 2) (pairFault (x .nodes) s r) (arcBytes s r (x .cost s r)) (arc-most s r (x .cost s r))
 
-pub measures-some : {w v : List ℕ} {m n : ℕ} → w ≡ v → length v ≡ n → n ≤ m → Measures w m n
-measures-some p q h = record { exact = sym (ap length p ∙ q); most = h }
+  pub row-at-most : (y : ℕ) → length (rowAt x y) ≤ recordLength 3
+  unfolding rowAt
+  row-at-most y = kept-most (recordLength 3) (nodeFault (x .nodes) y) (rowBytes y (x .row y)) (row-most y (x .row y))
+
+  pub report-at-most : (s r : ℕ) → length (reportAt x s r) ≤ recordLength 4
+  unfolding reportAt
+  report-at-most s r = kept-most (recordLength 4) (pairFault (x .nodes) s r) (reportBytes s r (x .held s r)) (report-most s r (x .held s r))
+
+-- the ordered pairs of at most 32 nodes
+pub pairs-few : (n : ℕ) → n ≤ maxNodes → n * (n - 1) ≤ maxPairs
+pairs-few n h =
+    let others : n - 1 ≤ maxNodes - 1 = omega arith in
+    mul-le-mul h others
 
 module _ (f : ℕ → List ℕ) where
   -- one number is among d
@@ -49,15 +67,9 @@ module _ (f : ℕ → List ℕ) where
         length-append (each f 0 i) (f i),
       )
 
-  -- its length added, where each has at most m bytes
-  pub measures-next : (m i a b : ℕ) → Measures (each f 0 i) (m * i) a → Measures (f i) m b → Measures (each f 0 (i + 1)) (m * (i + 1)) (a + b)
-  measures-next m i a b h g =
-      let e : m * (i + 1) ≡ m * i + m = omega arith in
-      record {
-        exact = omega (arith, h .exact, g .exact, ap length (each-next f i), length-append (each f 0 i) (f i));
-        most = omega (arith, h .most, g .most, e);
-      }
-
-  -- of d numbers, where i is d
-  pub measures-all : {i d n a : ℕ} (m : ℕ) → i ≡ d → m * i ≤ n → Measures (each f 0 i) (m * i) a → Measures (each f 0 d) n a
-  measures-all m e l h = record { exact = h .exact ∙ ap (λ k. length (each f 0 k)) e; most = omega (arith, h .most, l) }
+  -- the sum of the lengths
+  pub each-sum : (k : ℕ) → length (each f 0 k) ≡ sum (λ i. length (f i)) k
+  each-sum zero = ap length (each-zero f 0) ∙ sym (sum-zero (λ i. length (f i)))
+  each-sum (suc k) =
+      let e : suc k ≡ k + 1 = omega arith in
+      rw e (omega (arith, each-sum k, ap length (each-next f k), length-append (each f 0 k) (f k), sum-next (λ i. length (f i)) k))

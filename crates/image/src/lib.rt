@@ -3,20 +3,23 @@
 // Each record is written into the part of the output not yet filled: the writer lends the rest of the output to a record writer, which answers
 // the bytes used and leaves the remainder unchanged. The network is read by calls of `memory`. No public function has a precondition.
 ghost use mathlib.Core.Path.{_≡_};
-ghost use Prim.Native.Nat.{_+_, _-_, _<_, _≤_};
+ghost use mathlib.Core.Bool.{_&&_};
+ghost use Prim.Native.Nat.{_+_, _<_, _≤_};
 ghost use lib.Dec.{leb};
 ghost use lib.ListN.{length};
 ghost use lib.Seq.{sets};
 ghost use Rattle.network.specs.Writing.{Writes};
+ghost use Rattle.ancestors.specs.Ancestors.{one, count};
+ghost use Rattle.network.specs.Faults.{maxNodes};
+ghost use Rattle.network.specs.Arcs.{arcsTo, arcWords};
 ghost use Rattle.memory.specs.Layout.{view};
 ghost use Rattle.records.specs.Numbers.{be32};
 ghost use Rattle.records.specs.Records.{recordLength, endRecord, headerRecord, arcRecord};
 ghost use Rattle.records.specs.Image.{image, imageOf};
 ghost use Rattle.filling.specs.Filling.{Wrote, Added};
 ghost use Rattle.image.specs.Items.{longStored, Stored, itemBytes};
-ghost use Rattle.image.specs.Lines.{recordAt, recordLine, recordLines};
-ghost use Rattle.image.specs.Measured.{longest, longestLine, Measures};
-use memory::HeldRead;
+ghost use Rattle.image.specs.Lines.{rowAt, recordAt, recordLine, recordLines};
+ghost use Rattle.image.specs.Measured.{holds, receiverBytes, mostBytes};
 use memory::Network;
 use memory::RowRead;
 use network::Written;
@@ -35,16 +38,8 @@ const REPORT_LENGTH: usize = 1 + records::REPORT_BODY;
 // The first and the last record of an image.
 const ENDS_LENGTH: usize = HEADER_LENGTH + END_LENGTH;
 
-// The most nodes, and the ordered pairs of different ones.
-const NODES: usize = network::MAX_NODES as usize;
-
-const PAIRS: usize = NODES * (NODES - 1);
-
-// The bytes of the largest image: every pair with an arc and a report, every node but the origin with a route.
-pub const MAX_IMAGE: usize = ENDS_LENGTH
-    + PAIRS * ARC_LENGTH
-    + (NODES - 1) * ROW_LENGTH
-    + PAIRS * REPORT_LENGTH;
+// The words of arcs, a receiver's each.
+type Arcs = [u32; network::MAX_NODES as usize];
 
 // Kinds of records.
 const END: u8 = 0;
@@ -153,18 +148,18 @@ enum Item {
 }
 
 // By kind: of sender s and receiver i, or of node i.
-fn read_item(net: &Network, kind: u8, s: u32, i: u32) -> Item
-    requires { ⌜ s < view (now net) .nodes ⌝ }
+fn read_item(net: &Network, arcs: &Arcs, kind: u8, s: u32, i: u32) -> Item
+    requires { ⌜ now arcs ≡ arcWords (view (now net)) ⌝ }
     requires { ⌜ i < view (now net) .nodes ⌝ }
     ensures { λ f. ⌜ itemBytes s i f ≡ recordAt (view (now (net .entry))) kind s i ⌝ }
 {
     if kind == ARC {
-        let read = memory::pair_cost(net, s, i);
-        let cost = read.cost;
-        if cost == 0 {
-            return Item::Nothing;
+        if ancestors::listed(arcs[i as usize], s) {
+            return Item::Arc {
+                cost: memory::cost_word(net, s, i),
+            };
         }
-        return Item::Arc { cost: cost };
+        return Item::Nothing;
     }
     if kind == ROW {
         let RowRead::Route {
@@ -182,47 +177,80 @@ fn read_item(net: &Network, kind: u8, s: u32, i: u32) -> Item
             list: list,
         };
     }
-    let HeldRead::Report { label, list } = memory::pair_held(net, s, i) else {
-        return Item::Nothing;
-    };
-    Item::Report {
-        label: label,
-        list: list,
+    if ancestors::listed(arcs[i as usize], s) {
+        let list = memory::held_list_word(net, s, i);
+        if list == 0 {
+            return Item::Nothing;
+        }
+        return Item::Report {
+            label: memory::held_label_word(net, s, i),
+            list: list,
+        };
     }
+    Item::Nothing
 }
 
 // ---- lengths
 
-// The bytes of a record; 0 where the network has none.
-fn record_length(net: &Network, kind: u8, s: u32, i: u32) -> usize
-    requires { ⌜ s < view (now net) .nodes ⌝ }
-    requires { ⌜ i < view (now net) .nodes ⌝ }
-    ensures { λ r. ⌜ Measures (recordAt (view (now (net .entry))) kind s i) longest r ⌝ }
+// 1 where both hold.
+fn both(a: bool, b: bool) -> u32
+    ensures { λ k. ⌜ k ≡ one (a && b) ⌝ }
 {
-    let item = read_item(net, kind, s, i);
-    match item {
-        Item::Nothing => 0,
-        Item::Arc { cost: _ } => ARC_LENGTH,
-        Item::Row {
-            label: _,
-            predecessor: _,
-            list: _,
-        } => ROW_LENGTH,
-        Item::Report { label: _, list: _ } => REPORT_LENGTH,
-    }
+    (a & b) as u32
 }
 
-// The records of sender s to the receivers below n, or those of the nodes below n.
-fn line_length(net: &Network, kind: u8, s: u32, n: u32) -> usize
-    requires { ⌜ n ≤ view (now net) .nodes ⌝ }
-    requires { ⌜ s ≤ n - 1 ⌝ }
-    ensures { λ r. ⌜ Measures (recordLine (view (now (net .entry))) kind n s) longestLine r ⌝ }
+// How many reports receiver r holds, over these arcs.
+fn held_count(net: &Network, arcs: u32, r: u32) -> u32
+    ensures { λ k. ⌜ k ≡ count (holds (now (net .entry)) arcs r) maxNodes ⌝ }
 {
-    let mut total: usize = 0;
-    let mut i: u32 = 0;
-    while i < n {
-        total = total + record_length(net, kind, s, i);
-        i = i + 1;
+    let mut total: u32 = 0;
+    for s in 0u32..network::MAX_NODES {
+        total = total
+            + both(
+                ancestors::listed(arcs, s),
+                memory::held_list_word(net, s, r) != 0,
+            );
+    }
+    total
+}
+
+// The bytes of node r's row; 0 where none is written.
+fn row_length(net: &Network, r: u32) -> usize
+    ensures { λ k. ⌜ k ≡ length (rowAt (view (now (net .entry))) r) ⌝ }
+{
+    let RowRead::Route {
+        label: _,
+        predecessor: _,
+        list: _,
+        hops: _,
+    } = memory::row(net, r)
+    else {
+        return 0;
+    };
+    ROW_LENGTH
+}
+
+// The bytes of an image, without the first and the last record, that are of receiver r: its row, the arcs to it, and the reports that it holds.
+fn receiver_length(net: &Network, arcs: u32, r: u32) -> usize
+    requires { ⌜ arcs ≡ arcsTo (view (now net)) r ⌝ }
+    ensures { λ k. ⌜ k ≡ receiverBytes (view (now (net .entry))) r ⌝ }
+{
+    row_length(net, r)
+        + ancestors::count_nodes(arcs) as usize * ARC_LENGTH
+        + held_count(net, arcs, r) as usize * REPORT_LENGTH
+}
+
+// The length of an image, by the arcs' words.
+fn counted_length(net: &Network, arcs: &Arcs) -> usize
+    requires { ⌜ now arcs ≡ arcWords (view (now net)) ⌝ }
+    ensures { λ r. ⌜ r ≡ length (image (view (now (net .entry)))) ⌝ }
+{
+    let n = memory::nodes(net);
+    let mut total = ENDS_LENGTH;
+    let mut r: u32 = 0;
+    while r < n {
+        total = total + receiver_length(net, arcs[r as usize], r);
+        r = r + 1;
     }
     total
 }
@@ -231,14 +259,8 @@ fn line_length(net: &Network, kind: u8, s: u32, n: u32) -> usize
 pub fn image_length(net: &Network) -> usize
     ensures { λ r. ⌜ r ≡ length (image (view (now (net .entry)))) ⌝ }
 {
-    let n = memory::nodes(net);
-    let mut total = ENDS_LENGTH + line_length(net, ROW, 0, n);
-    let mut s: u32 = 0;
-    while s < n {
-        total = total + line_length(net, ARC, s, n) + line_length(net, REPORT, s, n);
-        s = s + 1;
-    }
-    total
+    let arcs = memory::arc_words(net);
+    counted_length(net, &arcs)
 }
 
 // ---- a record where the network has one
@@ -261,13 +283,21 @@ fn put_item(item: Item, s: u32, i: u32, out: &mut [u8]) -> usize
 }
 
 // From a place of the output on; answers the place after it.
-fn put_record(net: &Network, kind: u8, s: u32, i: u32, out: &mut [u8], at: usize) -> usize
-    requires { ⌜ s < view (now net) .nodes ⌝ }
+fn put_record(
+    net: &Network,
+    arcs: &Arcs,
+    kind: u8,
+    s: u32,
+    i: u32,
+    out: &mut [u8],
+    at: usize,
+) -> usize
+    requires { ⌜ now arcs ≡ arcWords (view (now net)) ⌝ }
     requires { ⌜ i < view (now net) .nodes ⌝ }
     requires { ⌜ at + length (recordAt (view (now net)) kind s i) ≤ length (now out) ⌝ }
     ensures { λ r. ⌜ Added (recordAt (view (now (net .entry))) kind s i) (now (out .entry)) (now (out .exit)) at r ⌝ }
 {
-    let item = read_item(net, kind, s, i);
+    let item = read_item(net, arcs, kind, s, i);
     match item {
         Item::Nothing => at,
         _ => at + put_item(item, s, i, &mut out[at..]),
@@ -276,22 +306,31 @@ fn put_record(net: &Network, kind: u8, s: u32, i: u32, out: &mut [u8], at: usize
 
 // ---- records, one after another
 
-fn put_line(net: &Network, kind: u8, s: u32, n: u32, out: &mut [u8], start: usize) -> usize
+fn put_line(
+    net: &Network,
+    arcs: &Arcs,
+    kind: u8,
+    s: u32,
+    n: u32,
+    out: &mut [u8],
+    start: usize,
+) -> usize
+    requires { ⌜ now arcs ≡ arcWords (view (now net)) ⌝ }
     requires { ⌜ n ≤ view (now net) .nodes ⌝ }
-    requires { ⌜ s ≤ n - 1 ⌝ }
     requires { ⌜ start + length (recordLine (view (now net)) kind n s) ≤ length (now out) ⌝ }
     ensures { λ r. ⌜ Added (recordLine (view (now (net .entry))) kind n s) (now (out .entry)) (now (out .exit)) start r ⌝ }
 {
     let mut at = start;
     let mut i: u32 = 0;
     while i < n {
-        at = put_record(net, kind, s, i, out, at);
+        at = put_record(net, arcs, kind, s, i, out, at);
         i = i + 1;
     }
     at
 }
 
-fn put_lines(net: &Network, kind: u8, n: u32, out: &mut [u8], start: usize) -> usize
+fn put_lines(net: &Network, arcs: &Arcs, kind: u8, n: u32, out: &mut [u8], start: usize) -> usize
+    requires { ⌜ now arcs ≡ arcWords (view (now net)) ⌝ }
     requires { ⌜ n ≤ view (now net) .nodes ⌝ }
     requires { ⌜ start + length (recordLines (view (now net)) kind n) ≤ length (now out) ⌝ }
     ensures { λ r. ⌜ Added (recordLines (view (now (net .entry))) kind n) (now (out .entry)) (now (out .exit)) start r ⌝ }
@@ -299,7 +338,7 @@ fn put_lines(net: &Network, kind: u8, n: u32, out: &mut [u8], start: usize) -> u
     let mut at = start;
     let mut s: u32 = 0;
     while s < n {
-        at = put_line(net, kind, s, n, out, at);
+        at = put_line(net, arcs, kind, s, n, out, at);
         s = s + 1;
     }
     at
@@ -308,39 +347,53 @@ fn put_lines(net: &Network, kind: u8, n: u32, out: &mut [u8], start: usize) -> u
 // ---- the image
 
 // Writes an image where there is room for it.
-fn put_image(net: &Network, out: &mut [u8]) -> usize
+fn put_image(net: &Network, arcs: &Arcs, out: &mut [u8]) -> usize
+    requires { ⌜ now arcs ≡ arcWords (view (now net)) ⌝ }
     requires { ⌜ length (image (view (now net))) ≤ length (now out) ⌝ }
     ensures { λ r. ⌜ Wrote (image (view (now (net .entry)))) (now (out .entry)) (now (out .exit)) r ⌝ }
 {
     let n = memory::nodes(net);
-    let arcs = put_header(out, n, memory::origin(net));
-    let rows = put_lines(net, ARC, n, out, arcs);
-    let reports = put_line(net, ROW, 0, n, out, rows);
-    let end = put_lines(net, REPORT, n, out, reports);
+    let first = put_header(out, n, memory::origin(net));
+    let rows = put_lines(net, arcs, ARC, n, out, first);
+    let reports = put_line(net, arcs, ROW, 0, n, out, rows);
+    let end = put_lines(net, arcs, REPORT, n, out, reports);
     end + put_end(&mut out[end..])
 }
 
-// Whether an output of this length has room for the image. No image of a network with its origin among 32 nodes is longer than the largest one, so
-// that nothing is counted for an output of that length.
-fn fits(net: &Network, room: usize) -> bool
+// The most bytes of an image of n nodes: every pair with an arc and a report, every node but the origin with a route.
+fn most_bytes(n: u32) -> usize
+    requires { ⌜ 0 < n ⌝ }
+    requires { ⌜ n ≤ maxNodes ⌝ }
+    ensures { λ r. ⌜ r ≡ mostBytes n ⌝ }
+{
+    let others = n as usize - 1;
+    ENDS_LENGTH + n as usize * others * (ARC_LENGTH + REPORT_LENGTH) + others * ROW_LENGTH
+}
+
+// Whether an output of this length has room for the image. No image of a network with its origin among n nodes is longer than the most for n, so that
+// nothing is counted for an output of that length.
+fn fits(net: &Network, arcs: &Arcs, room: usize) -> bool
+    requires { ⌜ now arcs ≡ arcWords (view (now net)) ⌝ }
     ensures { λ b. ⌜ b ≡ leb (length (image (view (now (net .entry))))) room ⌝ }
 {
-    if MAX_IMAGE <= room {
-        if memory::origin(net) < network::MAX_NODES {
+    let n = memory::nodes(net);
+    if memory::origin(net) < n {
+        if most_bytes(n) <= room {
             return true;
         }
     }
-    image_length(net) <= room
+    counted_length(net, arcs) <= room
 }
 
 // Writes a network's image. The number is 0, or 6 where the output is shorter than the image, and then nothing is written.
 pub fn write_image(net: &Network, out: &mut [u8]) -> Written
     ensures { λ w. ⌜ Writes (imageOf (view (now (net .entry))) (now (out .entry))) w (now (out .exit)) ⌝ }
 {
-    if fits(net, out.len()) {
+    let arcs = memory::arc_words(net);
+    if fits(net, &arcs, out.len()) {
         return Written {
             number: 0,
-            used: put_image(net, out),
+            used: put_image(net, &arcs, out),
         };
     }
     Written { number: 6, used: 0 }

@@ -43,7 +43,7 @@ report-long s r d l = refl
 
 -- ---- what the parts of an image have at most
 
-arc-most : (s r c : ℕ) → length (arcBytes s r c) ≤ recordLength 2
+pub arc-most : (s r c : ℕ) → length (arcBytes s r c) ≤ recordLength 2
 unfolding arcBytes bodyLength
 arc-most s r c = go (eqb c 0)
   where
@@ -51,19 +51,19 @@ arc-most s r c = go (eqb c 0)
     go true = omega arith
     go false = omega (arith, arc-long s r c)
 
-row-most : (y : ℕ) (w : Row) → length (rowBytes y w) ≤ recordLength 3
+pub row-most : (y : ℕ) (w : Row) → length (rowBytes y w) ≤ recordLength 3
 unfolding rowBytes bodyLength
 row-most y none = omega arith
 row-most y (root l) = omega arith
 row-most y (via d p l) = omega (arith, row-long y d p l)
 
-report-most : (s r : ℕ) (h : Report) → length (reportBytes s r h) ≤ recordLength 4
+pub report-most : (s r : ℕ) (h : Report) → length (reportBytes s r h) ≤ recordLength 4
 unfolding reportBytes bodyLength
 report-most s r empty = omega arith
 report-most s r (told d l) = omega (arith, report-long s r d l)
 
 -- bytes that a test may leave out
-kept-most : (m : ℕ) (b : Bool) (l : List ℕ) → length l ≤ m → length (cond b [] l) ≤ m
+pub kept-most : (m : ℕ) (b : Bool) (l : List ℕ) → length l ≤ m → length (cond b [] l) ≤ m
 kept-most m true l h = omega arith
 kept-most m false l h = h
 
@@ -73,7 +73,7 @@ unfolding each
 each-front f o k e = ap (λ (l : List ℕ). l ++ each f (suc o) k) e
 
 -- d numbers of which one, o, has no bytes
-each-gap : (f : ℕ → List ℕ) (m d o : ℕ) → o < d → f o ≡ [] → ((i : ℕ) → length (f i) ≤ m) → length (each f 0 d) ≤ m * (d - 1)
+pub each-gap : (f : ℕ → List ℕ) (m d o : ℕ) → o < d → f o ≡ [] → ((i : ℕ) → length (f i) ≤ m) → length (each f 0 d) ≤ m * (d - 1)
 each-gap f m d o h e b =
     let p : o + suc (d - 1 - o) ≡ d = omega arith in
     let z : 0 + o ≡ o = omega arith in

@@ -24,29 +24,32 @@ put-header-requires c κs =
 put-lines-requires : tie.Need-put-lines-requires
 put-lines-requires c κs =
     let header = c .before .before .before in
-    let w = now (header .before .before .before .before .before .args .net) in
+    let start = header .before .before .before .before .before in
+    let w = now (start .args .net) in
     let n = header .before .before .before .nodes in
     let long = image-long (view w) (n .result) _ (n .ensures) refl (few w) in
-    omega (arith, header-end _ _ (header .put-header .ensures))
+    (start .pre .0, (omega arith, omega (arith, header-end _ _ (header .put-header .ensures))))
 
 put-line-requires : tie.Need-put-line-requires
 put-line-requires c κs =
     let arcs = c .before .before .before in
     let header = arcs .before .before .before .before in
-    let w = now (header .before .before .before .before .before .args .net) in
+    let start = header .before .before .before .before .before in
+    let w = now (start .args .net) in
     let n = header .before .before .before .nodes in
     let long = image-long (view w) (n .result) _ (n .ensures) refl (few w) in
-    omega (arith, header-end _ _ (header .put-header .ensures), arcs .put-lines .ensures .place)
+    (start .pre .0, (omega arith, omega (arith, header-end _ _ (header .put-header .ensures), arcs .put-lines .ensures .place)))
 
 put-lines-requires-2 : tie.Need-put-lines-requires-2
 put-lines-requires-2 c κs =
     let rows = c .before .before .before in
     let arcs = rows .before .before .before .before in
     let header = arcs .before .before .before .before in
-    let w = now (header .before .before .before .before .before .args .net) in
+    let start = header .before .before .before .before .before in
+    let w = now (start .args .net) in
     let n = header .before .before .before .nodes in
     let long = image-long (view w) (n .result) _ (n .ensures) refl (few w) in
-    omega (arith, header-end _ _ (header .put-header .ensures), arcs .put-lines .ensures .place, rows .put-line .ensures .place)
+    (start .pre .0, (omega arith, omega (arith, header-end _ _ (header .put-header .ensures), arcs .put-lines .ensures .place, rows .put-line .ensures .place)))
 
 sub-put-end : tie.Need-sub-put-end
 sub-put-end c = added-within (c .before .before .put-lines2 .ensures)

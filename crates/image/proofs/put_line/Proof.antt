@@ -16,10 +16,10 @@ use Rattle.image.proofs.put_line.Statement.{statement}
 use Rattle.image.proofs.put_line.Tie as tie
 
 abbrev Inv-loop : tie.InvT-loop
-Inv-loop net kind s n out₀ start at₀ i₀ out at i = Added (each (recordAt (view net) kind s) 0 i) out₀ out start at × (i ≤ n)
+Inv-loop net arcs kind s n out₀ start at₀ i₀ out at i = Added (each (recordAt (view net) kind s) 0 i) out₀ out start at × (i ≤ n)
 
 abbrev μ-loop : tie.MeasureT-loop
-μ-loop net kind s n out₀ start at₀ i₀ out at i = n - i
+μ-loop net arcs kind s n out₀ start at₀ i₀ out at i = n - i
 
 loop-holds : tie.Need-loop-holds Inv-loop μ-loop
 loop-holds c =
@@ -34,7 +34,7 @@ put-record-requires c κs =
     let a = b .args in
     let f = recordAt (view (now (a .net))) (a .kind) (a .s) in
     let whole = added-long (l .inv .0) (omega (arith, l .inv .0 .place, each-among f (l .i) (a .n) (c .before .loop-test .taken))) in
-    (omega arith, (omega arith, omega (arith, l .inv .0 .place, each-among f (l .i) (a .n) (c .before .loop-test .taken))))
+    (b .pre .0, (omega arith, omega (arith, l .inv .0 .place, each-among f (l .i) (a .n) (c .before .loop-test .taken))))
 
 loop-again : tie.Need-loop-again Inv-loop μ-loop
 loop-again c =

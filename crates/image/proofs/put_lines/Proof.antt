@@ -16,10 +16,10 @@ use Rattle.image.proofs.put_lines.Statement.{statement}
 use Rattle.image.proofs.put_lines.Tie as tie
 
 abbrev Inv-loop : tie.InvT-loop
-Inv-loop net kind n out₀ start at₀ s₀ out at s = Added (each (recordLine (view net) kind n) 0 s) out₀ out start at × (length out ≡ length out₀) × (s ≤ n)
+Inv-loop net arcs kind n out₀ start at₀ s₀ out at s = Added (each (recordLine (view net) kind n) 0 s) out₀ out start at × (length out ≡ length out₀) × (s ≤ n)
 
 abbrev μ-loop : tie.MeasureT-loop
-μ-loop net kind n out₀ start at₀ s₀ out at s = n - s
+μ-loop net arcs kind n out₀ start at₀ s₀ out at s = n - s
 
 loop-holds : tie.Need-loop-holds Inv-loop μ-loop
 loop-holds c =
@@ -30,9 +30,10 @@ loop-holds c =
 put-line-requires : tie.Need-put-line-requires Inv-loop μ-loop
 put-line-requires c κs =
     let l = c .before .before .loop in
-    let a = c .before .before .before .before .args in
+    let b = c .before .before .before .before in
+    let a = b .args in
     let f = recordLine (view (now (a .net))) (a .kind) (a .n) in
-    (omega arith, (omega arith, omega (arith, l .inv .0 .place, l .inv .1, each-among f (l .s) (a .n) (c .before .loop-test .taken))))
+    (b .pre .0, (omega arith, omega (arith, l .inv .0 .place, l .inv .1, each-among f (l .s) (a .n) (c .before .loop-test .taken))))
 
 loop-again : tie.Need-loop-again Inv-loop μ-loop
 loop-again c =
