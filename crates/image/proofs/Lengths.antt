@@ -8,12 +8,12 @@ use native.Mathlib.Omega.{arith}
 use lib.ListN.{length, length-append}
 use Rattle.network.specs.Faults.{maxNodes, nodeFault, pairFault}
 use Rattle.network.specs.Network.{Net}
-use Rattle.records.specs.Image.{each, arcBytes, rowBytes, reportBytes, maxPairs}
+use Rattle.records.specs.Image.{each, arcBytes, rowBytes, reportBytes, maxPairs, fullImage, maxImage}
 use Rattle.records.specs.Records.{bodyLength, recordLength, arcRecord, rowRecord, reportRecord}
 use Rattle.records.proofs.Each.{each-split, each-zero, each-next}
 use Rattle.records.proofs.Sizes.{arc-long, row-long, report-long, arc-most, row-most, report-most, kept-most}
 use Rattle.image.specs.Lines.{arcAt, rowAt, reportAt}
-use Rattle.image.specs.Measured.{sum}
+use Rattle.image.specs.Measured.{sum, mostBytes}
 use Rattle.image.proofs.Sums.{sum-zero, sum-next}
 
 -- the lengths of records
@@ -52,6 +52,11 @@ pub pairs-few : (n : ℕ) → n ≤ maxNodes → n * (n - 1) ≤ maxPairs
 pairs-few n h =
     let others : n - 1 ≤ maxNodes - 1 = omega arith in
     mul-le-mul h others
+
+-- the most bytes of an image of 32 nodes are those of the largest image
+pub most-largest : mostBytes maxNodes ≡ maxImage
+unfolding mostBytes maxImage fullImage bodyLength
+most-largest = refl
 
 module _ (f : ℕ → List ℕ) where
   -- one number is among d

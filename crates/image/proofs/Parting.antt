@@ -1,20 +1,18 @@
 -- An image in parts: the records of the nodes below n, line by line.
 -- Assumes nothing.
-use mathlib.Core.Path.{_≡_, refl, sym, ap, _∙_}
-use mathlib.Core.Bool.{true, false, cond}
-use mathlib.Core.Logic.{_⊎_, inl, inr}
+use mathlib.Core.Path.{_≡_, sym, ap, _∙_}
+use mathlib.Core.Bool.{cond}
 use mathlib.Core.List.{List, [], _++_, append-assoc, append-nil}
 use Prim.Native.Nat.{ℕ, _+_, _*_, _-_, _<_, _≤_}
 use native.Mathlib.Omega.{arith}
 use lib.ListN.{length, length-append}
-use Rattle.ancestors.proofs.Cases.{bool-cases}
 use Rattle.network.specs.Faults.{maxNodes, nodeFault, pairFault}
 use Rattle.network.specs.Network.{root, Net}
-use Rattle.network.proofs.FaultLaws.{node-bad, node-free, sender-bad, receiver-bad, pair-says}
+use Rattle.network.proofs.FaultLaws.{node-bad, node-free, sender-bad, receiver-bad, pair-same}
 use Rattle.records.specs.Records.{bodyLength, recordLength, endRecord, headerRecord}
 use Rattle.records.specs.Image.{each, arcBytes, rowBytes, reportBytes, byNode, byPair, image}
-use Rattle.records.proofs.Each.{each-same, each-split, each-none, each-most}
-use Rattle.records.proofs.Sizes.{end-long, header-long, each-gap}
+use Rattle.records.proofs.Each.{each-same, each-split, each-none}
+use Rattle.records.proofs.Sizes.{end-long, header-long, each-gap, pairs-gap}
 use Rattle.filling.specs.Filling.{Wrote}
 use Rattle.image.specs.Lines.{arcAt, rowAt, reportAt, recordAt, recordLine, recordLines}
 use Rattle.image.specs.Measured.{sum, receiverBytes, mostBytes}
@@ -43,29 +41,13 @@ pairs-long f n d h b =
     sum-same (λ s. length (each (f s) 0 d)) (λ s. sum (λ r. length (f s r)) n) d (λ s. ap length (each-cut (f s) n d h (b s)) ∙ each-sum (f s) n) ∙
     sum-swap (λ s r. length (f s r)) d n
 
--- at most m bytes for each of two different numbers below n
-pairs-most : (f : ℕ → ℕ → List ℕ) (m n : ℕ) → ((s : ℕ) → f s s ≡ []) → ((s r : ℕ) → length (f s r) ≤ m)
-    → length (each (λ s. each (f s) 0 n) 0 n) ≤ n * (n - 1) * m
-pairs-most f m n a b =
-    omega (arith, turned m (n - 1) n, each-most (λ s. each (f s) 0 n) (m * (n - 1)) 0 n (λ s _ h. each-gap (f s) m n s (omega arith) (a s) (b s)))
-  where
-    turned : (a b c : ℕ) → a * b * c ≡ c * b * a
-    turned a b c = omega arith
-
--- nothing at a sender, a receiver or a node that is not below n, and nothing from a node to itself
+-- nothing at a sender, a receiver or a node that is not below n
 module _ (n : ℕ) (l : ℕ → ℕ → List ℕ) (s r : ℕ) where
   sender-none : n ≤ s → cond (pairFault n s r) [] (l s r) ≡ []
   sender-none h = rw (sender-bad n s r h)
 
   receiver-none : n ≤ r → cond (pairFault n s r) [] (l s r) ≡ []
   receiver-none h = rw (receiver-bad n s r h)
-
-self-none : (n : ℕ) (l : List ℕ) (s : ℕ) → cond (pairFault n s s) [] l ≡ []
-self-none n l s = go (bool-cases (pairFault n s s))
-  where
-    go : (pairFault n s s ≡ true) ⊎ (pairFault n s s ≡ false) → cond (pairFault n s s) [] l ≡ []
-    go (inl e) = rw e
-    go (inr e) = absurd (pair-says n s s e .2 refl)
 
 node-none : (n y : ℕ) (l : List ℕ) → n ≤ y → cond (nodeFault n y) [] l ≡ []
 node-none n y l h = rw (node-bad n y h)
@@ -108,16 +90,16 @@ module _ (x : Net) (n o : ℕ) (nodes : n ≡ x .nodes) (origin : o ≡ x .origi
       rw nodes (omega (arith, all, a, b, c, p, header-long m (x .origin), end-long))
 
   -- with the origin among them, which has the origin's row
-  pub image-most : (l : ℕ) → o < n → x .row o ≡ root l → length (image x) ≤ mostBytes n
+  pub image-by-nodes : (l : ℕ) → o < n → x .row o ≡ root l → length (image x) ≤ mostBytes n
   unfolding mostBytes arcAt rowAt reportAt recordAt rowBytes bodyLength
-  image-most l h e =
+  image-by-nodes l h e =
       let m = x .nodes in
       let free = node-free m o (omega arith) in
-      let a : length (recordLines x 2 n) ≤ n * (n - 1) * recordLength 2 = pairs-most (arcAt x) (recordLength 2) n
-      (λ s. self-none m (arcBytes s s (x .cost s s)) s) (arc-at-most x) in
+      let a : length (recordLines x 2 n) ≤ n * (n - 1) * recordLength 2 = pairs-gap (arcAt x) (recordLength 2) n
+      (λ s. rw (pair-same m s)) (arc-at-most x) in
       let b : length (recordLine x 3 n 0) ≤ recordLength 3 * (n - 1) = each-gap (rowAt x) (recordLength 3) n o h (rw (free, e)) (row-at-most x) in
-      let c : length (recordLines x 4 n) ≤ n * (n - 1) * recordLength 4 = pairs-most (reportAt x) (recordLength 4) n
-      (λ s. self-none m (reportBytes s s (x .held s s)) s) (report-at-most x) in
+      let c : length (recordLines x 4 n) ≤ n * (n - 1) * recordLength 4 = pairs-gap (reportAt x) (recordLength 4) n
+      (λ s. rw (pair-same m s)) (report-at-most x) in
       omega (arith, image-long, a, b, c)
 
 -- where the first record ends

@@ -12,7 +12,7 @@ use Rattle.network.specs.Arcs.{arcsTo}
 use Rattle.memory.specs.Layout.{view}
 use Rattle.records.specs.Records.{bodyLength, recordLength}
 use Rattle.image.specs.Lines.{arcAt, rowAt, reportAt}
-use Rattle.image.specs.Measured.{sum, holds, receiverBytes}
+use Rattle.image.specs.Measured.{holds, receiverBytes}
 use Rattle.image.proofs.Sums.{sum-most, sum-count}
 use Rattle.image.proofs.Lengths.{arc-at-most, row-at-most, report-at-most}
 use Rattle.image.proofs.Reading.{arc-counts, report-counts}
@@ -27,7 +27,10 @@ receiver-counts xs r =
     (sum-count (λ s. length (reportAt (view xs) s r)) (holds xs (arcsTo (view xs) r) r) (recordLength 3) maxNodes (λ s. report-counts xs s r))
 
 -- a row, and an arc and a report from each of 32 nodes
-pub receiver-most : (x : Net) (r : ℕ) → receiverBytes x r ≤ 523
+abbrev pub mostReceiver : ℕ
+mostReceiver = recordLength 3 + maxNodes * (recordLength 2 + recordLength 4)
+
+pub receiver-most : (x : Net) (r : ℕ) → receiverBytes x r ≤ mostReceiver
 unfolding receiverBytes bodyLength
 receiver-most x r =
     let a = sum-most (λ s. length (arcAt x s r)) (recordLength 2) maxNodes (λ s. arc-at-most x s r) in

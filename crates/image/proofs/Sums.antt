@@ -1,8 +1,8 @@
 -- Laws of sums: equal terms, bounds, terms of two parts, sums of sums the other way round, and numbers that pass a test, counted.
 -- Assumes nothing.
 use mathlib.Core.Path.{_≡_, refl, sym, ap, ap₂, _∙_}
-use mathlib.Core.Bool.{Bool, true, false}
-use Prim.Native.Nat.{ℕ, zero, suc, _+_, _*_, _<_, _≤_}
+use mathlib.Core.Bool.{Bool}
+use Prim.Native.Nat.{ℕ, zero, suc, _+_, _*_, _≤_}
 use native.Mathlib.Omega.{arith}
 use Rattle.ancestors.specs.Ancestors.{one, count}
 use Rattle.image.specs.Measured.{sum}

@@ -3,16 +3,14 @@
 use mathlib.Core.Path.{_≡_, refl, sym, ap, _∙_}
 use mathlib.Core.Bool.{Bool, true, false, cond}
 use mathlib.Core.List.{List, [], _++_}
-use mathlib.Core.Logic.{_⊎_, inl, inr}
 use Prim.Native.Nat.{ℕ, suc, _+_, _*_, _-_, _<_, _≤_}
 use native.Mathlib.Omega.{arith}
 use lib.Dec.{eqb}
 use lib.ListN.{length, length-append}
 use Rattle.ancestors.specs.Ancestors.{own}
-use Rattle.ancestors.proofs.Cases.{bool-cases}
 use Rattle.network.specs.Faults.{maxNodes, pairFault, nodeFault}
 use Rattle.network.specs.Network.{Row, none, root, via, Report, empty, told, Net, Within}
-use Rattle.network.proofs.FaultLaws.{pair-says}
+use Rattle.network.proofs.FaultLaws.{pair-same}
 use Rattle.network.proofs.Limits.{within-size}
 use Rattle.records.specs.Numbers.{be8, be16, be32}
 use Rattle.records.specs.Records.{bodyLength, recordLength, endRecord, headerRecord, arcRecord, rowRecord, reportRecord}
@@ -88,20 +86,22 @@ each-gap f m d o h e b =
     parts : (m a b c : ℕ) → a + b ≡ c → m * a + m * b ≡ m * c
     parts m a b c h = rw (← h) (omega arith)
 
+-- d numbers by d numbers, without bytes for a number and itself
+pub pairs-gap : (f : ℕ → ℕ → List ℕ) (m d : ℕ) → ((s : ℕ) → f s s ≡ []) → ((s r : ℕ) → length (f s r) ≤ m)
+    → length (each (λ s. each (f s) 0 d) 0 d) ≤ d * (d - 1) * m
+pairs-gap f m d e b =
+    let lines = each-most (λ s. each (f s) 0 d) (m * (d - 1)) 0 d (λ s _ h. each-gap (f s) m d s (omega arith) (e s) (b s)) in
+    omega (arith, lines, turned m (d - 1) d)
+  where
+    turned : (a b c : ℕ) → a * b * c ≡ c * b * a
+    turned a b c = omega arith
+
 -- a node is not paired with itself
 pairs-most : (x : Net) (f : ℕ → ℕ → List ℕ) (m : ℕ) → ((s r : ℕ) → length (f s r) ≤ m) → length (byPair x f) ≤ maxPairs * m
 unfolding byPair
-pairs-most x f m h = omega (arith, each-most (λ s. each (g s) 0 maxNodes) (m * (maxNodes - 1)) 0 maxNodes (λ s _ b. line s b))
-  where
-    g : ℕ → ℕ → List ℕ
-    g s r = cond (pairFault (x .nodes) s r) [] (f s r)
-
-    self : (s : ℕ) → (pairFault (x .nodes) s s ≡ true) ⊎ (pairFault (x .nodes) s s ≡ false) → g s s ≡ []
-    self s (inl e) = rw e
-    self s (inr e) = absurd (pair-says (x .nodes) s s e .2 refl)
-
-    line : (s : ℕ) → s < maxNodes → length (each (g s) 0 maxNodes) ≤ m * (maxNodes - 1)
-    line s b = each-gap (g s) m maxNodes s b (self s (bool-cases (pairFault (x .nodes) s s))) (λ r. kept-most m (pairFault (x .nodes) s r) (f s r) (h s r))
+pairs-most x f m h =
+    pairs-gap (λ s r. cond (pairFault (x .nodes) s r) [] (f s r)) m maxNodes (λ s. rw (pair-same (x .nodes) s))
+    (λ s r. kept-most m (pairFault (x .nodes) s r) (f s r) (h s r))
 
 module _ (x : Net) where
   -- the rows written, and that of y

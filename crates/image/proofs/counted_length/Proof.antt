@@ -10,7 +10,7 @@ use Rattle.records.specs.Records.{bodyLength, recordLength}
 use Rattle.image.specs.Measured.{sum, receiverBytes}
 use Rattle.image.proofs.Sums.{sum-zero, sum-next, sum-most}
 use Rattle.image.proofs.Reading.{word-of}
-use Rattle.image.proofs.Receivers.{receiver-most}
+use Rattle.image.proofs.Receivers.{mostReceiver, receiver-most}
 use Rattle.image.proofs.Parting.{image-counted}
 use Rattle.image.proofs.counted_length.Statement.{statement}
 use Rattle.image.proofs.counted_length.Tie as tie
@@ -44,7 +44,7 @@ add-total c =
     let n = c .before .before .before .before in
     let w = now (n .before .args .net) in
     let f = receiverBytes (view w) in
-    let sofar = sum-most f 523 (l .r) (receiver-most (view w)) in
+    let sofar = sum-most f mostReceiver (l .r) (receiver-most (view w)) in
     omega (arith, l .inv .0, l .inv .1, n .nodes .ensures, few w, sofar, c .receiver-length .ensures, receiver-most (view w) (l .r))
 
 loop-again : tie.Need-loop-again Inv-loop μ-loop

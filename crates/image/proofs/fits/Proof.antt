@@ -8,7 +8,7 @@ use lib.Dec.{leb}
 use denote.Ref.{now}
 use Rattle.memory.specs.Layout.{view}
 use Rattle.memory.proofs.Laws.{few, read-origin}
-use Rattle.image.proofs.Parting.{image-most}
+use Rattle.image.proofs.Parting.{image-by-nodes}
 use Rattle.image.proofs.fits.Statement.{statement}
 use Rattle.image.proofs.fits.Tie as tie
 
@@ -24,7 +24,7 @@ returns c =
     let a = n .before .args in
     let w = now (a .net) in
     let o = origin .origin in
-    let most = image-most (view w) (n .nodes .result) (o .result) (n .nodes .ensures) (o .ensures) (few w) _ (c .before .before .if1 .taken) (read-origin w (o .result) (o .ensures)) in
+    let most = image-by-nodes (view w) (n .nodes .result) (o .result) (n .nodes .ensures) (o .ensures) (few w) _ (c .before .before .if1 .taken) (read-origin w (o .result) (o .ensures)) in
     sym (le-leb _ (a .room) (omega (arith, most, c .before .most-bytes .ensures, c .if2 .taken)))
 
 returns-2 : tie.Need-returns-2
