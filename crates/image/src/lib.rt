@@ -1,16 +1,17 @@
 // The image of a network, written into an output that the caller lends.
 //
 // Each record is written into the part of the output not yet filled: the writer lends the rest of the output to a record writer, which answers
-// the bytes used and leaves the remainder unchanged. The network is read by calls of `memory`. No public function has a precondition.
+// the bytes used and leaves the remainder unchanged. The network is read by calls of `memory`; which arcs there are it answers once, as words, and an
+// arc's cost and report are then read without a look at n. No public function has a precondition.
 ghost use mathlib.Core.Path.{_≡_};
 ghost use mathlib.Core.Bool.{_&&_};
 ghost use Prim.Native.Nat.{_+_, _<_, _≤_};
 ghost use lib.Dec.{leb};
 ghost use lib.ListN.{length};
 ghost use lib.Seq.{sets};
-ghost use Rattle.network.specs.Writing.{Writes};
 ghost use Rattle.ancestors.specs.Ancestors.{one, count};
 ghost use Rattle.network.specs.Faults.{maxNodes};
+ghost use Rattle.network.specs.Writing.{Writes};
 ghost use Rattle.network.specs.Arcs.{arcsTo, arcWords};
 ghost use Rattle.memory.specs.Layout.{view};
 ghost use Rattle.records.specs.Numbers.{be32};
@@ -38,7 +39,7 @@ const REPORT_LENGTH: usize = 1 + records::REPORT_BODY;
 // The first and the last record of an image.
 const ENDS_LENGTH: usize = HEADER_LENGTH + END_LENGTH;
 
-// The words of arcs, a receiver's each.
+// The words of arcs, one for each receiver.
 type Arcs = [u32; network::MAX_NODES as usize];
 
 // Kinds of records.
@@ -199,7 +200,8 @@ fn both(a: bool, b: bool) -> u32
     (a & b) as u32
 }
 
-// How many reports receiver r holds, over these arcs.
+// How many reports receiver r holds, over these arcs. All 32 senders are passed, without a branch: a loop of known length over words that lie side by
+// side becomes vector instructions.
 fn held_count(net: &Network, arcs: u32, r: u32) -> u32
     ensures { λ k. ⌜ k ≡ count (holds (now (net .entry)) arcs r) maxNodes ⌝ }
 {
