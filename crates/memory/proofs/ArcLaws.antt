@@ -7,7 +7,8 @@ use mathlib.Core.Logic.{_⊎_, inl, inr}
 use mathlib.Core.List.{List}
 use Prim.Native.Nat.{ℕ, _+_, _*_, _<_, _≤_}
 use native.Mathlib.Omega.{arith}
-use Rattle.ancestors.specs.Ancestors.{has}
+use Rattle.ancestors.specs.Ancestors.{has, those}
+use Rattle.ancestors.proofs.Sets.{those-ext}
 use Rattle.ancestors.proofs.Cases.{le-or-lt}
 use Rattle.ancestors.proofs.Laws.{has-beyond}
 use Rattle.network.specs.Faults.{maxNodes, pairFault}
@@ -56,3 +57,8 @@ module _ (xs : List ℕ) (s r : ℕ) where
 
     pub no-report : view xs .held s r ≡ empty
     no-report = held-none xs s r (sym arc-bit ∙ e)
+
+-- a receiver that is no node has no arcs
+pub arcs-none : (xs : List ℕ) (r : ℕ) → view xs .nodes ≤ r → arcsTo (view xs) r ≡ 0
+unfolding arcsTo those everyArc
+arcs-none xs r h = those-ext (λ s. everyArc (view xs) s r) (λ s. false) maxNodes (λ s _. sym (arc-is xs s r) ∙ arc-beyond xs s r (inr h))

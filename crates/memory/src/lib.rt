@@ -274,7 +274,7 @@ pub fn arc_words(net: &Network) -> [u32; BY_NODE]
 {
     let n = nodes(net);
     let mut words = [0u32; BY_NODE];
-    for r in 0u32..network::MAX_NODES {
+    for r in 0u32..n {
         words[r as usize] = arc_word(net, n, r);
     }
     words
