@@ -1,24 +1,25 @@
 -- What crates above may cite of arcs in words: the word of a receiver's arcs says which arcs are present, and the words of an arc what cost it has and
 -- what report it holds.
 -- Assumes nothing.
-use mathlib.Core.Path.{_≡_, sym, _∙_}
-use mathlib.Core.Bool.{true, false}
+use mathlib.Core.Path.{_≡_, refl, sym, ap, _∙_}
+use mathlib.Core.Bool.{Bool, true, false, not, _&&_}
 use mathlib.Core.Logic.{_⊎_, inl, inr}
 use mathlib.Core.List.{List}
 use Prim.Native.Nat.{ℕ, _+_, _*_, _<_, _≤_}
 use native.Mathlib.Omega.{arith}
+use lib.Bits.{bitAnd, and-le-r}
 use Rattle.ancestors.specs.Ancestors.{has, those}
-use Rattle.ancestors.proofs.Sets.{those-ext}
+use Rattle.ancestors.proofs.Sets.{has-and, those-has, those-ext}
 use Rattle.ancestors.proofs.Cases.{le-or-lt}
 use Rattle.ancestors.proofs.Laws.{has-beyond}
 use Rattle.network.specs.Faults.{maxNodes, pairFault}
 use Rattle.network.specs.Network.{empty}
 use Rattle.network.specs.Round.{everyArc}
-use Rattle.network.specs.Arcs.{arcsTo}
+use Rattle.network.specs.Arcs.{arcsTo, senders}
 use Rattle.network.specs.Words.{reportOf, costOf}
-use Rattle.network.proofs.Arcs.{arcs-exact, arcs-fit}
+use Rattle.network.proofs.Arcs.{arcs-exact, arcs-fit, senders-has, senders-fit}
 use Rattle.network.proofs.FaultLaws.{pair-says}
-use Rattle.memory.specs.Layout.{look, view, pairWord, costWord, heldLabelWord, heldListWord, arcCosts, heldLabels, heldLists}
+use Rattle.memory.specs.Layout.{present, look, view, arcBits, pairWord, costWord, heldLabelWord, heldListWord, arcCosts, heldLabels, heldLists}
 use Rattle.memory.proofs.Laws.{few}
 use Rattle.memory.proofs.Store.{Has, present-pair, read-cost, read-held, cost-none, held-none, arc-is, arc-beyond}
 use Rattle.memory.proofs.Reading.{pair-word-in}
@@ -62,3 +63,23 @@ module _ (xs : List ℕ) (s r : ℕ) where
 pub arcs-none : (xs : List ℕ) (r : ℕ) → view xs .nodes ≤ r → arcsTo (view xs) r ≡ 0
 unfolding arcsTo those everyArc
 arcs-none xs r h = those-ext (λ s. everyArc (view xs) s r) (λ s. false) maxNodes (λ s _. sym (arc-is xs s r) ∙ arc-beyond xs s r (inr h))
+
+-- ---- the stored word
+
+both-ways : (a b : Bool) → (a && b) ≡ (b && a)
+both-ways true true = refl
+both-ways true false = refl
+both-ways false true = refl
+both-ways false false = refl
+
+-- the bits in range of the stored word are the arcs
+pub arcs-word : (xs : List ℕ) (n r : ℕ) → n ≡ view xs .nodes → bitAnd (look xs (arcBits + r)) (senders n r) ≡ arcsTo (view xs) r
+unfolding arcsTo everyArc present
+arcs-word xs n r is =
+    those-has 32 (bitAnd w (senders n r)) (omega (arith, and-le-r w (senders n r), senders-fit n r))
+    ∙ those-ext (has (bitAnd w (senders n r))) _ 32
+    (λ s h. has-and w (senders n r) s ∙ ap (_&&_ (has w s)) (senders-has n r s h ∙ ap (λ k. not (pairFault k s r)) is)
+    ∙ both-ways (has w s) (not (pairFault (view xs .nodes) s r)) ∙ arc-is xs s r)
+  where
+    w : ℕ
+    w = look xs (arcBits + r)

@@ -118,25 +118,7 @@ module _ (xs : List ℕ) (s r : ℕ) where
     unfolding heldMeans readHeld reportOf
     held-told t z = rw (e, ← held-is t, ne-eqb (heldListWord xs s r) 0 z)
 
--- ---- arcs as words
-
-both-ways : (a b : Bool) → (a && b) ≡ (b && a)
-both-ways true true = refl
-both-ways true false = refl
-both-ways false true = refl
-both-ways false false = refl
-
--- the bits in range of the stored word are the arcs
-pub arcs-word : (xs : List ℕ) (n r : ℕ) → n ≡ view xs .nodes → bitAnd (look xs (arcBits + r)) (senders n r) ≡ arcsTo (view xs) r
-unfolding arcsTo everyArc present
-arcs-word xs n r is =
-    those-has 32 (bitAnd w (senders n r)) (omega (arith, and-le-r w (senders n r), senders-fit n r))
-    ∙ those-ext (has (bitAnd w (senders n r))) _ 32
-    (λ s h. has-and w (senders n r) s ∙ ap (_&&_ (has w s)) (senders-has n r s h ∙ ap (λ k. not (pairFault k s r)) is)
-    ∙ both-ways (has w s) (not (pairFault (view xs .nodes) s r)) ∙ arc-is xs s r)
-  where
-    w : ℕ
-    w = look xs (arcBits + r)
+-- ---- a receiver's arcs
 
 module _ (x : Net) (r : ℕ) where
   pub arcs-refused : x .nodes ≤ r → arcsMeans (record { number = 3; arcs = 0 }) ≡ readArcs x r

@@ -7,7 +7,7 @@ use Prim.Native.Nat.{_+_}
 use lib.Bits.{bitAnd}
 use denote.Ref.{now}
 use Rattle.memory.specs.Layout.{look, arcBits}
-use Rattle.memory.proofs.Reading.{arcs-word}
+use Rattle.memory.proofs.ArcLaws.{arcs-word}
 use Rattle.memory.proofs.arc_word.Statement.{statement}
 use Rattle.memory.proofs.arc_word.Tie as tie
 

@@ -122,7 +122,7 @@ found c =
     (subst (λ k. Alone (a .arcs) xs ds ls (a .receiver) (l .most + 1) (l .from) k) all (l .inv .3 (w .0 .left)))))
     (c .if2 .came)
 
-cast-from : tie.Need-cast-t31 Inv-loop μ-loop
+cast-from : tie.Need-cast-t30 Inv-loop μ-loop
 cast-from c = omega (arith, won-below _ _ _ _ _ (found (c .before)), c .before .before .before .before .before .before .before .before .pre)
 
 mul-joined : tie.Need-mul-joined Inv-loop μ-loop
@@ -155,7 +155,8 @@ least-offer-spec =
     (λ c. omega arith)
     (λ c. omega arith)
     (λ c. omega arith)
-    (λ c κs. search needs)
+    (λ c. omega arith)
+    (λ c. omega arith)
     (λ c κs. search needs)
     (λ c κs. search needs)
     (λ c. omega arith)
