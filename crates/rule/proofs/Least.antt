@@ -2,7 +2,7 @@
 -- the second goes on from there among the senders that offer it too.
 -- Assumes nothing.
 use mathlib.Core.Path.{_≡_, refl, sym, ap, subst, _∙_}
-use mathlib.Core.Bool.{Bool, true, false, cond, _||_, not, _&&_}
+use mathlib.Core.Bool.{Bool, true, false, cond, _||_}
 use mathlib.Core.Logic.{_⊎_, inl, inr, _≢_}
 use mathlib.Core.List.{List}
 use Prim.Native.Nat.{ℕ, _+_, _^_, _<_, _≤_}
@@ -11,7 +11,7 @@ use native.Mathlib.Numerals.{add-one}
 use lib.Dec.{eqb, ltb, leb}
 use lib.ListN.{length, getD}
 use lib.Count.{ones}
-use borrow.Author.Tests.{lt-ltb, le-ltb, le-leb, lt-leb, ltb-true, ltb-false, eq-eqb, ne-eqb, eqb-false}
+use borrow.Author.Tests.{lt-ltb, le-ltb, le-leb, lt-leb, ltb-true, ltb-false, eq-eqb, ne-eqb}
 use Rattle.ancestors.specs.Ancestors.{has, put, count}
 use Rattle.ancestors.proofs.Cases.{le-or-lt, eq-or-ne, bool-cases, clash}
 use Rattle.ancestors.proofs.Laws.{ones-count}
@@ -126,12 +126,12 @@ module _ (arcs : ℕ) (costs labels lists : List ℕ) (y : ℕ) where
       go (inl t) = (t, sum-is y (costOf (getD costs s 0)) (getD labels s 0) (getD lists s 0) v (rw t at o))
       go (inr t) = let m = made y 0 empty v (rw t at o) in let q : empty ≡ told (m .label) (m .list) = m .is in clash cc
 
-  -- a list of 0 makes none
-  offer-none : (s : ℕ) → getD lists s 0 ≡ 0 → Nothing ≡ f s
-  unfolding offer reportOf
-  offer-none s z = go (has arcs s)
+  -- an empty report makes none
+  pub offer-none : (s b : ℕ) → getD lists s 0 ≡ 0 → offerBelow b (f s) ≡ Nothing
+  unfolding offer reportOf offerBelow
+  offer-none s b z = go (has arcs s)
     where
-      go : (t : Bool) → Nothing ≡ offer y (cond t (costOf (getD costs s 0)) 0) (cond t (reportOf (getD labels s 0) (getD lists s 0)) empty)
+      go : (t : Bool) → offerBelow b (offer y (cond t (costOf (getD costs s 0)) 0) (cond t (reportOf (getD labels s 0) (getD lists s 0)) empty)) ≡ Nothing
       go true = rw (eq-eqb (getD lists s 0) 0 z)
       go false = refl
 
@@ -187,22 +187,28 @@ module _ (arcs : ℕ) (costs labels lists : List ℕ) (y : ℕ) where
         let k = small s v (o .0) in
         (winner-takes f alike s b p e v (o .0) k (λ _. before-lesser v 0 b 0 (o .1)), k)
 
-  -- passed with an empty report or another sum than b, it leaves p alone
-  pub alone-pass : (s b p : ℕ) → Alone b p s → offerBelow b (f s) ≡ Nothing → (not (eqb (getD lists s 0) 0) && eqb (getD labels s 0 + costOf (getD costs s 0)) b) ≡ false
-      → Alone b p (s + 1)
+  -- passed without an offer, it leaves p alone
+  pub alone-none : (s b p : ℕ) → Alone b p s → getD lists s 0 ≡ 0 → Alone b p (s + 1)
+  alone-none s b p before z r v after below o = go (eq-or-ne r s)
+    where
+      last : f s ≡ Sum v → (f s ≡ Nothing) ⊎ ((u : ℕ) × (f s ≡ Sum u) × (v + 1 ≤ u)) → b < v
+      last q (inl n) = nothing-sum (f s) n q
+      last q (inr (u, t, k)) = let same : u ≡ v = cc in absurd (omega arith)
+
+      go : (r ≡ s) ⊎ (r ≢ s) → b < v
+      go (inl e) = let q : f s ≡ Sum v = rw e at o in last q (below-nothing (v + 1) (f s) (offer-none s (v + 1) z))
+      go (inr e) = before r v after (omega (arith, e)) o
+
+  -- passed with another sum than b, it leaves p alone
+  pub alone-pass : (s b p : ℕ) → Alone b p s → offerBelow b (f s) ≡ Nothing → getD labels s 0 + costOf (getD costs s 0) ≢ b → Alone b p (s + 1)
   alone-pass s b p before h apart r v after below o = go (eq-or-ne r s)
     where
-      -- an offer is not made by an empty report
-      some : f s ≡ Sum v → getD lists s 0 ≢ 0
-      some q z = nothing-sum (f s) (sym (offer-none s z)) q
-
       last : f s ≡ Sum v → (f s ≡ Nothing) ⊎ ((u : ℕ) × (f s ≡ Sum u) × (b ≤ u)) → b < v
       last q (inl n) = nothing-sum (f s) n q
       last q (inr (u, t, k)) =
           let same : u ≡ v = cc in
           let total = over-arc s v q .1 in
-          let ne : getD labels s 0 + costOf (getD costs s 0) ≢ b = eqb-false _ b (rw (ne-eqb (getD lists s 0) 0 (some q)) at apart) in
-          omega (arith, ne)
+          omega (arith, apart)
 
       go : (r ≡ s) ⊎ (r ≢ s) → b < v
       go (inl e) = let q : f s ≡ Sum v = rw e at o in last q (below-nothing b (f s) h)

@@ -3,10 +3,9 @@
 // The crate `network` has document 01's definitions; the calls on a whole network are in `memory` and `routing`.
 // No public function has a precondition.
 ghost use mathlib.Core.Path.{_≡_};
-ghost use mathlib.Core.Bool.{cond, _||_, _&&_, not};
+ghost use mathlib.Core.Bool.{cond, _||_};
 ghost use Prim.Native.Nat.{_+_, _<_, _≤_};
 ghost use lib.ListN.{length};
-ghost use lib.Dec.{eqb};
 ghost use Rattle.ancestors.specs.Ancestors.{has};
 ghost use Rattle.network.specs.Faults.{maxLabel};
 ghost use Rattle.network.specs.Network.{empty};
@@ -74,16 +73,6 @@ fn offer_most(
     Offer::Nothing
 }
 
-// Whether a report that is not empty, given as two words, with the cost of a word has just the sum of a bound.
-fn offers_most(label: u32, list: u32, cost: u32, most: u32) -> bool
-    ensures { λ r. ⌜ r ≡ (not (eqb list 0) && eqb (label + costOf cost) (most + 1)) ⌝ }
-{
-    if list == 0 {
-        return false;
-    }
-    total(label, cost) == wide(most)
-}
-
 // Of the senders that offer the least sum, the first being given, the one of fewest ones, and then the lowest.
 fn fewest_ones(
     arcs: u32,
@@ -139,12 +128,16 @@ fn least_offer(arcs: u32, costs: &[u32], labels: &[u32], lists: &[u32], receiver
     let mut from = 0usize;
     let mut again = false;
     for s in 0..n {
-        again = or(again, offers_most(labels[s], lists[s], costs[s], most));
+        let list = lists[s];
+        if list == 0 {
+            continue;
+        }
+        again = or(again, total(labels[s], costs[s]) == wide(most));
         let Offer::Sum(sum) = offer_most(
             arcs,
             s as u32,
             labels[s],
-            lists[s],
+            list,
             costs[s],
             receiver,
             most,
