@@ -126,12 +126,12 @@ module _ (arcs : ℕ) (costs labels lists : List ℕ) (y : ℕ) where
       go (inl t) = (t, sum-is y (costOf (getD costs s 0)) (getD labels s 0) (getD lists s 0) v (rw t at o))
       go (inr t) = let m = made y 0 empty v (rw t at o) in let q : empty ≡ told (m .label) (m .list) = m .is in clash cc
 
-  -- an empty report makes none
-  pub offer-none : (s b : ℕ) → getD lists s 0 ≡ 0 → offerBelow b (f s) ≡ Nothing
-  unfolding offer reportOf offerBelow
-  offer-none s b z = go (has arcs s)
+  -- its report is not empty
+  over-list : (s v : ℕ) → f s ≡ Sum v → getD lists s 0 ≢ 0
+  unfolding offer reportOf
+  over-list s v o z = nothing-sum (f s) (go (has arcs s)) o
     where
-      go : (t : Bool) → offerBelow b (offer y (cond t (costOf (getD costs s 0)) 0) (cond t (reportOf (getD labels s 0) (getD lists s 0)) empty)) ≡ Nothing
+      go : (t : Bool) → offer y (cond t (costOf (getD costs s 0)) 0) (cond t (reportOf (getD labels s 0) (getD lists s 0)) empty) ≡ Nothing
       go true = rw (eq-eqb (getD lists s 0) 0 z)
       go false = refl
 
@@ -187,20 +187,8 @@ module _ (arcs : ℕ) (costs labels lists : List ℕ) (y : ℕ) where
         let k = small s v (o .0) in
         (winner-takes f alike s b p e v (o .0) k (λ _. before-lesser v 0 b 0 (o .1)), k)
 
-  -- passed without an offer, it leaves p alone
-  pub alone-none : (s b p : ℕ) → Alone b p s → getD lists s 0 ≡ 0 → Alone b p (s + 1)
-  alone-none s b p before z r v after below o = go (eq-or-ne r s)
-    where
-      last : f s ≡ Sum v → (f s ≡ Nothing) ⊎ ((u : ℕ) × (f s ≡ Sum u) × (v + 1 ≤ u)) → b < v
-      last q (inl n) = nothing-sum (f s) n q
-      last q (inr (u, t, k)) = let same : u ≡ v = cc in absurd (omega arith)
-
-      go : (r ≡ s) ⊎ (r ≢ s) → b < v
-      go (inl e) = let q : f s ≡ Sum v = rw e at o in last q (below-nothing (v + 1) (f s) (offer-none s (v + 1) z))
-      go (inr e) = before r v after (omega (arith, e)) o
-
-  -- passed with another sum than b, it leaves p alone
-  pub alone-pass : (s b p : ℕ) → Alone b p s → offerBelow b (f s) ≡ Nothing → getD labels s 0 + costOf (getD costs s 0) ≢ b → Alone b p (s + 1)
+  -- passed with an empty report or another sum than b, it leaves p alone
+  pub alone-pass : (s b p : ℕ) → Alone b p s → offerBelow b (f s) ≡ Nothing → (getD lists s 0 ≢ 0 → getD labels s 0 + costOf (getD costs s 0) ≢ b) → Alone b p (s + 1)
   alone-pass s b p before h apart r v after below o = go (eq-or-ne r s)
     where
       last : f s ≡ Sum v → (f s ≡ Nothing) ⊎ ((u : ℕ) × (f s ≡ Sum u) × (b ≤ u)) → b < v
@@ -208,7 +196,7 @@ module _ (arcs : ℕ) (costs labels lists : List ℕ) (y : ℕ) where
       last q (inr (u, t, k)) =
           let same : u ≡ v = cc in
           let total = over-arc s v q .1 in
-          omega (arith, apart)
+          omega (arith, apart (over-list s v q))
 
       go : (r ≡ s) ⊎ (r ≢ s) → b < v
       go (inl e) = let q : f s ≡ Sum v = rw e at o in last q (below-nothing b (f s) h)
@@ -336,11 +324,11 @@ module _ (arcs s y c d l m : ℕ) where
       go (inl t) = rw t e
       go (inr t) = offer-absent t
 
-  pub offer-empty : l ≡ 0 → Makes Nothing
+  offer-empty : l ≡ 0 → Makes Nothing
   unfolding offer reportOf offerBelow
   offer-empty e = offer-either (rw (eq-eqb l 0 e))
 
-  pub offer-large : m ≤ d + c → Makes Nothing
+  offer-large : m ≤ d + c → Makes Nothing
   unfolding offer reportOf offerBelow
   offer-large h = go (eq-or-ne l 0)
     where
@@ -351,6 +339,14 @@ module _ (arcs s y c d l m : ℕ) where
       go : (l ≡ 0) ⊎ (l ≢ 0) → Makes Nothing
       go (inl e) = offer-empty e
       go (inr e) = offer-either (rw (ne-eqb l 0 e) (dear (has l y || ltb maxLabel (d + c))))
+
+  -- an empty report, or too large a sum
+  pub offer-over : (l ≢ 0 → m ≤ d + c) → Makes Nothing
+  offer-over h = go (eq-or-ne l 0)
+    where
+      go : (l ≡ 0) ⊎ (l ≢ 0) → Makes Nothing
+      go (inl e) = offer-empty e
+      go (inr e) = offer-large (h e)
 
   module _ (n : l ≢ 0) where
     pub offer-listed : has l y ≡ true → Makes Nothing

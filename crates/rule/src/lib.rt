@@ -11,6 +11,7 @@ ghost use Rattle.network.specs.Faults.{maxLabel};
 ghost use Rattle.network.specs.Network.{empty};
 ghost use Rattle.network.specs.Round.{offer, sender, winner, choice};
 ghost use Rattle.network.specs.Words.{reportOf, costOf, reports, costsOf, offersOf, onesOf, alike, offerBelow, chosen, chooseOf, choiceMeans};
+ghost use Rattle.rule.specs.Totals.{Totals};
 use network::Choice;
 use network::Offer;
 
@@ -27,10 +28,16 @@ fn wide(x: u32) -> u64
     x as u64
 }
 
-// Label plus the cost of a word, less one, as costs are stored; it may not fit 32 bits.
-fn total(label: u32, cost: u32) -> u64
-    ensures { λ r. ⌜ r + 1 ≡ label + costOf cost ⌝ }
+// More than any sum of two words.
+const NO_SUM: u64 = 8589934592;
+
+// Label plus the cost of a word, less one, as costs are stored; more than any such sum where the report is empty, so that one comparison tests both.
+fn total(label: u32, list: u32, cost: u32) -> u64
+    ensures { λ r. ⌜ Totals label list cost r ⌝ }
 {
+    if list == 0 {
+        return NO_SUM;
+    }
     wide(label) + wide(cost % 65536)
 }
 
@@ -43,7 +50,7 @@ fn present(arcs: u32, sender: u32) -> bool
 }
 
 // The offer of a sender's report, given as two words, over an arc whose cost is given as a word, if it is at most a bound. The sum is tested first:
-// where it is too large neither the list nor the arc's bit need be read.
+// where it is too large the arc's bit need not be read.
 fn offer_most(
     arcs: u32,
     sender: u32,
@@ -57,11 +64,8 @@ fn offer_most(
     requires { ⌜ most ≤ maxLabel ⌝ }
     ensures { λ r. ⌜ r ≡ offerBelow (most + 1) (offer receiver (cond (has arcs sender) (costOf cost) 0) (cond (has arcs sender) (reportOf label list) empty)) ⌝ }
 {
-    let less = total(label, cost);
+    let less = total(label, list, cost);
     if wide(most) <= less {
-        return Offer::Nothing;
-    }
-    if list == 0 {
         return Offer::Nothing;
     }
     if ancestors::listed(list, receiver) {
@@ -128,16 +132,12 @@ fn least_offer(arcs: u32, costs: &[u32], labels: &[u32], lists: &[u32], receiver
     let mut from = 0usize;
     let mut again = false;
     for s in 0..n {
-        let list = lists[s];
-        if list == 0 {
-            continue;
-        }
-        again = or(again, total(labels[s], costs[s]) == wide(most));
+        again = or(again, total(labels[s], lists[s], costs[s]) == wide(most));
         let Offer::Sum(sum) = offer_most(
             arcs,
             s as u32,
             labels[s],
-            list,
+            lists[s],
             costs[s],
             receiver,
             most,

@@ -17,7 +17,7 @@ use Rattle.network.specs.Network.{via}
 use Rattle.ancestors.specs.Ancestors.{put}
 use Rattle.ancestors.proofs.Cases.{or-neither}
 use Rattle.network.proofs.Offers.{won-below}
-use Rattle.rule.proofs.Least.{below-positive, winnerOf, winner-is, Alone, first-none, first-pass, first-take, offer-none, alone-none, alone-pass, alone-wins, choice-none, choice-some}
+use Rattle.rule.proofs.Least.{below-positive, winnerOf, winner-is, Alone, first-none, first-pass, first-take, alone-pass, alone-wins, choice-none, choice-some}
 use Rattle.rule.proofs.least_offer.Statement.{statement}
 use Rattle.rule.proofs.least_offer.Tie as tie
 
@@ -36,34 +36,21 @@ loop-holds c =
 
 loop-again : tie.Need-loop-again Inv-loop μ-loop
 loop-again c =
-    let l = c .before .before .before .loop in
-    let a = c .before .before .before .before .before .before .before .args in
-    let xs = now (a .costs) in
-    let ds = now (a .labels) in
-    let ls = now (a .lists) in (
-      first-pass (a .arcs) xs ds ls (a .receiver) (l .s) (l .most + 1) (l .from) (l .inv .0) (offer-none (a .arcs) xs ds ls (a .receiver) (l .s) (l .most + 1) (c .if1 .taken)),
-      l .inv .1,
-      omega arith,
-      λ h. alone-none (a .arcs) xs ds ls (a .receiver) (l .s) (l .most + 1) (l .from) (l .inv .3 h) (c .if1 .taken),
-    )
-
-loop-again-2 : tie.Need-loop-again-2 Inv-loop μ-loop
-loop-again-2 c =
     let l = c .before .before .before .before .before .before .before .before .before .before .before .before .before .loop in
     let a = c .before .before .before .before .before .before .before .before .before .before .before .before .before .before .before .before .before .args in
     let xs = now (a .costs) in
     let ds = now (a .labels) in
     let ls = now (a .lists) in
     let o = sym (c .before .before .offer-most .ensures) ∙ c .enum-told .given .1 in
-    let total = c .before .before .before .before .before .before .before .total in
-    let bound = c .before .before .before .before .before .before .wide in (
+    let total = c .before .before .before .before .before .before .before .before .total in
+    let bound = c .before .before .before .before .before .before .before .wide in (
       first-pass (a .arcs) xs ds ls (a .receiver) (l .s) (l .most + 1) (l .from) (l .inv .0) o,
       l .inv .1,
       omega arith,
       λ h.
-          let k = or-neither (l .again) _ (sym (c .before .before .before .before .before .or .ensures) ∙ h) in
+          let k = or-neither (l .again) _ (sym (c .before .before .before .before .before .before .or .ensures) ∙ h) in
           alone-pass (a .arcs) xs ds ls (a .receiver) (l .s) (l .most + 1) (l .from) (l .inv .3 (k .0)) o
-          (λ q. eqb-false (total .result) (bound .result) (k .1) (omega (arith, q, total .ensures, bound .ensures))),
+          (λ n q. eqb-false (total .result) (bound .result) (k .1) (omega (arith, q, total .ensures .some n, bound .ensures))),
     )
 
 sub-most : tie.Need-sub-most Inv-loop μ-loop
@@ -72,8 +59,8 @@ sub-most c =
     let o = sym (c .before .before .before .offer-most .ensures) ∙ c .before .sum .given .1 in
     omega (arith, below-positive (a .arcs) (now (a .costs)) (now (a .labels)) (now (a .lists)) (a .receiver) _ _ _ o)
 
-loop-again-3 : tie.Need-loop-again-3 Inv-loop μ-loop
-loop-again-3 c =
+loop-again-2 : tie.Need-loop-again-2 Inv-loop μ-loop
+loop-again-2 c =
     let l = c .before .before .before .before .before .before .before .before .before .before .before .before .before .before .loop in
     let a = c .before .before .before .before .before .before .before .before .before .before .before .before .before .before .before .before .before .before .args in
     let xs = now (a .costs) in
@@ -97,10 +84,10 @@ returns c =
     ap chosen
     (sym
     (choice-none (a .arcs) xs ds ls (a .receiver) (l .most + 1) (l .from)
-    (subst (λ k. winner (offersOf (a .arcs) xs ds ls (a .receiver)) alike k ≡ winnerOf (l .most + 1) (l .from)) all (l .inv .0)) (omega (arith, c .if2 .taken))))
+    (subst (λ k. winner (offersOf (a .arcs) xs ds ls (a .receiver)) alike k ≡ winnerOf (l .most + 1) (l .from)) all (l .inv .0)) (omega (arith, c .if1 .taken))))
 
 -- after the loop, where there is an offer
-first-found : (c : tie.Else2 Inv-loop μ-loop) →
+first-found : (c : tie.Else1 Inv-loop μ-loop) →
     let a = c .before .before .before .before .before .before .args in
     let l = c .before .before .loop in
     winner (offersOf (a .arcs) (now (a .costs)) (now (a .labels)) (now (a .lists)) (a .receiver)) alike (length (now (a .costs))) ≡ sender (l .from) (l .most + 1)
@@ -112,7 +99,7 @@ first-found c =
     let ls = now (a .lists) in
     let all : l .s ≡ length xs = omega arith in
     subst (λ k. winner (offersOf (a .arcs) xs ds ls (a .receiver)) alike k ≡ sender (l .from) (l .most + 1)) all
-    (l .inv .0 ∙ winner-is (l .most + 1) (l .from) (omega (arith, c .if2 .left)))
+    (l .inv .0 ∙ winner-is (l .most + 1) (l .from) (omega (arith, c .if1 .left)))
 
 fewest-ones-requires : tie.Need-fewest-ones-requires Inv-loop μ-loop
 fewest-ones-requires c κs =
@@ -120,10 +107,10 @@ fewest-ones-requires c κs =
     (p .0, (p .1 .0, (p .1 .1 .0, first-found (c .before))))
 
 -- the winner, whether or not the least sum was met again
-found : (c : tie.Joined3 Inv-loop μ-loop) →
+found : (c : tie.Joined2 Inv-loop μ-loop) →
     let a = c .before .before .before .before .before .before .before .args in
     winner (offersOf (a .arcs) (now (a .costs)) (now (a .labels)) (now (a .lists)) (a .receiver)) (onesOf (a .arcs) (now (a .labels)) (now (a .lists))) (length (now (a .costs))) ≡ sender
-    (c .if3 .from) (c .before .before .before .loop .most + 1)
+    (c .if2 .from) (c .before .before .before .loop .most + 1)
 found c =
     let l = c .before .before .before .loop in
     let a = c .before .before .before .before .before .before .before .args in
@@ -136,9 +123,9 @@ found c =
     (λ w. rw (w .1)
     (alone-wins (a .arcs) xs ds ls (a .receiver) (length xs) (l .most + 1) (l .from) (first-found (c .before))
     (subst (λ k. Alone (a .arcs) xs ds ls (a .receiver) (l .most + 1) (l .from) k) all (l .inv .3 (w .0 .left)))))
-    (c .if3 .came)
+    (c .if2 .came)
 
-cast-from : tie.Need-cast-t30 Inv-loop μ-loop
+cast-from : tie.Need-cast-t32 Inv-loop μ-loop
 cast-from c = omega (arith, won-below _ _ _ _ _ (found (c .before)), c .before .before .before .before .before .before .before .before .pre)
 
 mul-joined : tie.Need-mul-joined Inv-loop μ-loop
@@ -150,7 +137,7 @@ shared-slice-read-joined c = omega (arith, won-below _ _ _ _ _ (found (c .before
 returns-2 : tie.Need-returns-2 Inv-loop μ-loop
 unfolding choiceMeans
 returns-2 c =
-    let from = c .before .before .before .if3 .from in
+    let from = c .before .before .before .if2 .from in
     let l = c .before .before .before .before .before .before .loop in
     let a = c .before .before .before .before .before .before .before .before .before .before .args in
     let xs = now (a .costs) in
@@ -171,14 +158,13 @@ least-offer-spec =
     (λ c. omega arith)
     (λ c. omega arith)
     (λ c. omega arith)
-    loop-again
-    (λ c. omega arith)
-    (λ c. omega arith)
     (λ c. omega arith)
     (λ c. omega arith)
     (λ c κs. search needs)
     (λ c κs. search needs)
     (λ c κs. search needs)
+    (λ c. omega arith)
+    (λ c. omega arith)
     (λ c. omega arith)
     (λ c. omega arith)
     (λ c. omega arith)
@@ -189,11 +175,11 @@ least-offer-spec =
     (λ c. search needs)
     (λ c. omega arith)
     (λ c. omega arith)
-    loop-again-2
+    loop-again
     sub-most
     (λ c. omega arith)
     (λ c. omega arith)
-    loop-again-3
+    loop-again-2
     returns
     (λ c. omega arith)
     fewest-ones-requires
