@@ -3,6 +3,7 @@
 
 #define MAX_LABEL 2031585u
 #define MAX_RUN 1048576
+#define MAX_IMAGE 16217
 /* in a message: command and version; family and tag; the mask; the most entries */
 #define HEADER 0x02020000u
 #define FAMILY 0x00020000u
@@ -18,8 +19,12 @@ int plain_change(struct plain_net *x, uint32_t s, uint32_t r, uint32_t cost)
 {
     if (s >= x->n || r >= x->n || s == r || cost > 65535)
         return 3;
-    if (cost == 0 || x->cost[r][s] == 0)
+    if (cost) {
+        x->arcs[r] |= 1u << s;
+    } else {
+        x->arcs[r] &= ~(1u << s);
         x->held_list[r][s] = 0;
+    }
     x->cost[r][s] = cost;
     return 0;
 }
@@ -27,6 +32,15 @@ int plain_change(struct plain_net *x, uint32_t s, uint32_t r, uint32_t cost)
 int plain_grade(struct plain_net *x, uint32_t s, uint32_t r, uint32_t grade)
 {
     return grade > 15 ? 3 : plain_change(x, s, r, grades[grade]);
+}
+
+int plain_arcs(const struct plain_net *x, uint32_t r, uint32_t *word)
+{
+    *word = 0;
+    if (r >= x->n)
+        return 3;
+    *word = x->arcs[r];
+    return 0;
 }
 
 /* the ones of a list; plain -O2 makes a call of __builtin_popcount, which is slower */
@@ -90,39 +104,47 @@ static uint32_t all_nodes(uint32_t n)
     return n == 32 ? 0xffffffff : (1u << n) - 1;
 }
 
-static void hear(struct plain_net *x, uint32_t r, uint32_t s)
+/* a round: word r of marks has bit s where r hears s */
+static void hear(struct plain_net *x, const uint32_t *marks)
 {
-    x->held_label[r][s] = x->row_label[s];
-    x->held_list[r][s] = x->row_list[s];
+    for (uint32_t r = 0; r < x->n; r++)
+        for (uint32_t left = marks[r]; left; left &= left - 1) {
+            uint32_t s = (uint32_t)__builtin_ctz(left);
+            x->held_label[r][s] = x->row_label[s];
+            x->held_list[r][s] = x->row_list[s];
+        }
+    renew(x);
+}
+
+/* 3 for a mark out of range, else 7 for one without an arc; arcs are in range, so that marks that all have their arc need no other test */
+static int marks_fault(const struct plain_net *x, const uint32_t *marks)
+{
+    uint32_t without = 0, beyond = 0, absent = ~all_nodes(x->n);
+    for (uint32_t r = 0; r < 32; r++)
+        without |= marks[r] & ~x->arcs[r];
+    if (without == 0)
+        return 0;
+    for (uint32_t r = 0; r < x->n; r++)
+        beyond |= marks[r] & (absent | 1u << r);
+    for (uint32_t r = x->n; r < 32; r++)
+        beyond |= marks[r];
+    return beyond ? 3 : 7;
 }
 
 int plain_round(struct plain_net *x, const uint32_t *marks, uint64_t count)
 {
     if (count != 32)
         return 1;
-    uint32_t all = all_nodes(x->n);
-    for (uint32_t r = 0; r < 32; r++)
-        if (marks[r] & ~(r < x->n ? all & ~(1u << r) : 0))
-            return 3;
-    for (uint32_t r = 0; r < x->n; r++)
-        for (uint32_t s = 0; s < x->n; s++)
-            if ((marks[r] >> s & 1) && x->cost[r][s] == 0)
-                return 7;
-    for (uint32_t r = 0; r < x->n; r++)
-        for (uint32_t s = 0; s < x->n; s++)
-            if (marks[r] >> s & 1)
-                hear(x, r, s);
-    renew(x);
+    int number = marks_fault(x, marks);
+    if (number)
+        return number;
+    hear(x, marks);
     return 0;
 }
 
 void plain_full_round(struct plain_net *x)
 {
-    for (uint32_t r = 0; r < x->n; r++)
-        for (uint32_t s = 0; s < x->n; s++)
-            if (x->cost[r][s])
-                hear(x, r, s);
-    renew(x);
+    hear(x, x->arcs);
 }
 
 static uint32_t get16(const uint8_t *p)
@@ -174,6 +196,7 @@ static int arc_record(struct plain_net *x, const uint8_t *b, uint32_t *next)
     if (rank < *next)
         return 4;
     *next = rank + 1;
+    x->arcs[r] |= 1u << s;
     x->cost[r][s] = cost;
     return 0;
 }
@@ -209,7 +232,7 @@ static int report_record(struct plain_net *x, const uint8_t *b, uint32_t *next)
     uint32_t rank = 1056 + s * 32 + r;
     if (rank < *next)
         return 4;
-    if (x->cost[r][s] == 0)
+    if (!(x->arcs[r] >> s & 1))
         return 5;
     if (label > MAX_LABEL)
         return 10;
@@ -297,18 +320,17 @@ struct plain_answer plain_run(struct plain_net *x, const uint8_t *in, uint64_t s
     return (struct plain_answer){0, 0};
 }
 
+/* only an arc holds a report */
 static uint64_t image_length(const struct plain_net *x)
 {
     uint64_t length = 4;
     for (uint32_t r = 0; r < x->n; r++) {
+        length += 5 * ones(x->arcs[r]);
         if (r != x->origin && x->row_list[r])
             length += 11;
-        for (uint32_t s = 0; s < x->n; s++) {
-            if (x->cost[r][s])
-                length += 5;
-            if (x->held_list[r][s])
+        for (uint32_t left = x->arcs[r]; left; left &= left - 1)
+            if (x->held_list[r][__builtin_ctz(left)])
                 length += 11;
-        }
     }
     return length;
 }
@@ -316,8 +338,7 @@ static uint64_t image_length(const struct plain_net *x)
 int plain_image(const struct plain_net *x, uint8_t *out, uint64_t room, uint64_t *length)
 {
     *length = 0;
-    uint64_t whole = image_length(x);
-    if (room < whole)
+    if (room < MAX_IMAGE && room < image_length(x))
         return 6;
     uint8_t *p = out;
     *p++ = 1;
@@ -325,7 +346,7 @@ int plain_image(const struct plain_net *x, uint8_t *out, uint64_t room, uint64_t
     *p++ = x->origin;
     for (uint32_t s = 0; s < x->n; s++)
         for (uint32_t r = 0; r < x->n; r++)
-            if (x->cost[r][s]) {
+            if (x->arcs[r] >> s & 1) {
                 *p++ = 2;
                 *p++ = s;
                 *p++ = r;
@@ -348,8 +369,8 @@ int plain_image(const struct plain_net *x, uint8_t *out, uint64_t room, uint64_t
                 p = put32(p, x->held_label[r][s]);
                 p = put32(p, x->held_list[r][s]);
             }
-    *p = 0;
-    *length = whole;
+    *p++ = 0;
+    *length = (uint64_t)(p - out);
     return 0;
 }
 

@@ -1,11 +1,12 @@
-/* A plain C version of the rules of document 01 and change requests One to Three, written by hand to measure the proved one against. */
+/* A plain C version of the rules of document 01 and change requests One to Four, written by hand to measure the proved one against. */
 #ifndef PLAIN_H
 #define PLAIN_H
 #include <stdint.h>
 
 struct plain_net {
     uint32_t n, origin;
-    uint32_t cost[32][32];       /* [receiver][sender]; 0: no arc */
+    uint32_t arcs[32];           /* [receiver]: bit s is 1 where the arc from s is present */
+    uint32_t cost[32][32];       /* [receiver][sender] */
     uint32_t held_label[32][32]; /* [receiver][sender] */
     uint32_t held_list[32][32];  /* 0: empty */
     uint32_t row_label[32], row_from[32], row_list[32]; /* list 0: no route */
@@ -19,6 +20,8 @@ struct plain_answer {
 
 int plain_change(struct plain_net *x, uint32_t sender, uint32_t receiver, uint32_t cost);
 int plain_grade(struct plain_net *x, uint32_t sender, uint32_t receiver, uint32_t grade);
+/* the receiver's arcs; 0 where it is refused */
+int plain_arcs(const struct plain_net *x, uint32_t receiver, uint32_t *word);
 int plain_round(struct plain_net *x, const uint32_t *marks, uint64_t count);
 void plain_full_round(struct plain_net *x);
 
