@@ -1,8 +1,8 @@
 /*
- * Microseconds to a call, the proved one beside the plain C one: rounds, opening, image writing, runs, the C call, and RIP messages written and read;
- * and how a round grows with the number of nodes. Each line measures the two sides in turn, a few dozen microseconds each, and takes the least of
- * many such turns, so that other load meets both alike and leaves some turns alone. Before and after each line both sides are held to the same
- * network and the same answers, and at the end to the same answers for damaged images and messages; the exit status is not 0 where they differ.
+ * Microseconds to a call, the proved one beside the plain C one: rounds, the test of marks, opening, image writing, runs, the C call, and RIP messages
+ * written and read; and how a round grows with the number of nodes. Each line measures the two sides in turn, a few dozen microseconds each, and takes
+ * the least of many such turns, so that other load meets both alike and leaves some turns alone. Before and after each line both sides are held to the
+ * same network, arcs and answers, and at the end to the same answers for damaged images and messages; the exit status is not 0 where they differ.
  */
 #include <stdio.h>
 #include <string.h>
@@ -15,12 +15,13 @@ extern uint8_t bench_round(uint32_t *net, const uint32_t *marks, uint64_t count)
 extern uint8_t bench_full_round(uint32_t *net);
 extern void bench_open(const uint8_t *in, uint64_t size, uint64_t *answer, uint32_t *net);
 extern void bench_run(const uint8_t *in, uint64_t size, uint64_t *answer, uint32_t *net);
+extern void bench_arcs(const uint32_t *net, uint32_t receiver, uint64_t *answer);
 extern void bench_image(const uint32_t *net, uint8_t *out, uint64_t room, uint64_t *answer);
 extern void bench_write_messages(const uint32_t *net, uint32_t base, uint8_t *out, uint64_t room, uint64_t *answer);
 extern void bench_read_messages(const uint8_t *in, uint64_t size, uint32_t base, uint32_t n, uint64_t *answer);
 
 #define NODES 32
-#define WORDS 3200
+#define WORDS 3232
 #define TURNS 1000
 #define LONG_TURNS 27
 #define ROUNDS 1000000
@@ -96,7 +97,7 @@ static void held(int right, const char *what)
     bad = 1;
 }
 
-/* ---- networks: both sides write the same image */
+/* ---- networks: both sides write the same image, and answer the same arcs */
 
 static _Alignas(4096) uint8_t proved_out[GERQALLI_MAX_IMAGE];
 static _Alignas(4096) uint8_t plain_out[GERQALLI_MAX_IMAGE];
@@ -105,14 +106,28 @@ static uint64_t proved_answer[3], plain_answer[3];
 static void proved_write(void) { bench_image(words, proved_out, sizeof proved_out, proved_answer); }
 static void plain_write(void) { plain_answer[0] = (uint64_t)plain_image(&plain, plain_out, sizeof plain_out, &plain_answer[1]); }
 
-static int same(void)
+static int same_images(work a, work b)
 {
     memset(proved_out, 0xff, sizeof proved_out);
     memset(plain_out, 0xff, sizeof plain_out);
-    proved_write();
-    plain_write();
+    a();
+    b();
     return proved_answer[0] == 0 && !memcmp(proved_answer, plain_answer, 2 * sizeof *plain_answer) && !memcmp(proved_out, plain_out, sizeof plain_out);
 }
+
+static int same_arcs(void)
+{
+    int alike = 1;
+    for (uint32_t r = 0; r < NODES + 2; r++) {
+        uint64_t answer[2] = {99, 99};
+        uint32_t word = 99, number = (uint32_t)plain_arcs(&plain, r, &word);
+        bench_arcs(words, r, answer);
+        alike &= number == (r < plain.n ? 0 : 3) && answer[0] == number && answer[1] == word;
+    }
+    return alike;
+}
+
+static int same(void) { return same_images(proved_write, plain_write) && same_arcs(); }
 
 /* ---- rounds */
 
@@ -152,6 +167,10 @@ static const struct kind kinds[] = {
     {"marked, 5 in 10, costs 1, 2", 1, 4, 2, 5, proved_marked, plain_marked},
 };
 
+/* two of these fields, with every arc marked */
+#define DENSE (&kinds[0])
+#define SPARSE (&kinds[4])
+
 /* a field of n nodes; origin 0 */
 static void build(uint32_t n, const struct kind *kind)
 {
@@ -171,6 +190,16 @@ static void build(uint32_t n, const struct kind *kind)
                 if (next() % 10 >= kind->lost)
                     marks[k][r] |= 1u << s;
         }
+}
+
+/* both of them after n full rounds: the rows are settled, and each arc holds its sender's */
+static void settled(uint32_t n, const struct kind *kind)
+{
+    build(n, kind);
+    for (uint32_t k = 0; k < n; k++) {
+        proved_full();
+        plain_full();
+    }
 }
 
 static struct times rounds(uint32_t n, const struct kind *kind)
@@ -207,6 +236,41 @@ static void growth_lines(void)
             first = n == 4 ? t : first;
             printf("| %-27s | %5u | %10u | %10.2f | %13.1f |\n", k->name, n, arcs, 1000 * t / arcs, t / first);
         }
+    }
+}
+
+/* ---- the test of marks by itself: every arc is marked, and the last pair of a sender and a receiver, which has no arc */
+
+static void proved_refused(void) { proved_answer[0] = bench_round(words, marks[0], NODES); }
+static void plain_refused(void) { plain_answer[0] = (uint64_t)plain_round(&plain, marks[0], NODES); }
+
+static int both_refuse(void)
+{
+    proved_refused();
+    plain_refused();
+    return proved_answer[0] == 7 && plain_answer[0] == 7;
+}
+
+static void refused_line(const char *name, uint32_t n, const struct kind *kind)
+{
+    static uint32_t words_before[WORDS];
+    static struct plain_net plain_before;
+    settled(n, kind);
+    held(bench_change(words, n - 2, n - 1, 0) == plain_change(&plain, n - 2, n - 1, 0), "change");
+    marks[0][n - 1] |= 1u << (n - 2);
+    held(same(), name);
+    memcpy(words_before, words, sizeof words);
+    memcpy(&plain_before, &plain, sizeof plain);
+    held(both_refuse(), name);
+    print(name, n, measure(proved_refused, plain_refused, TURNS, 1000));
+    held(both_refuse() && !memcmp(words_before, words, sizeof words) && !memcmp(&plain_before, &plain, sizeof plain), name);
+}
+
+static void refused_lines(void)
+{
+    for (uint32_t n = 4; n <= NODES; n *= 8) {
+        refused_line("marks refused, dense", n, DENSE);
+        refused_line("marks refused, 1 arc in 8", n, SPARSE);
     }
 }
 
@@ -250,20 +314,10 @@ static int same_calls(void)
     return proved_answer[0] == plain_answer[0] && proved_answer[0] % 32 == 0 && !memcmp(proved_out, plain_out, sizeof plain_out);
 }
 
-/* every arc, row and report of n nodes */
-static void full_network(uint32_t n)
-{
-    build(n, &kinds[0]);
-    for (int k = 0; k < 2; k++) {
-        proved_full();
-        plain_full();
-    }
-}
-
-/* that of 32 nodes as a file, and then full rounds */
+/* every arc, row and report of 32 nodes, and then full rounds */
 static void full_file(uint32_t more)
 {
-    full_network(NODES);
+    settled(NODES, DENSE);
     held(plain_image(&plain, file, GERQALLI_MAX_IMAGE, &size) == 0 && size == GERQALLI_MAX_IMAGE, "full image");
     memset(file + size, 6, more);
     size += more;
@@ -283,12 +337,20 @@ static void call_line(const char *name, uint32_t n, int count)
     held(same_calls(), name);
 }
 
-static void write_line(const char *name, uint32_t n)
+/* image writing into an output as long as the image */
+static uint64_t exact;
+
+static void proved_exact(void) { bench_image(words, proved_out, exact, proved_answer); }
+static void plain_exact(void) { plain_answer[0] = (uint64_t)plain_image(&plain, plain_out, exact, &plain_answer[1]); }
+
+static void write_line(const char *name, uint32_t n, const struct kind *kind, work a, work b)
 {
-    full_network(n);
+    settled(n, kind);
     held(same(), name);
-    print(name, n, measure(proved_write, plain_write, TURNS, 1 + 10000 / (int)(n * n)));
-    held(same(), name);
+    exact = plain_answer[1];
+    held(same_images(a, b), name);
+    print(name, n, measure(a, b, TURNS, 1 + 10000 / (int)(n * n)));
+    held(same_images(a, b), name);
 }
 
 static void file_lines(void)
@@ -296,7 +358,11 @@ static void file_lines(void)
     full_file(0);
     file_line("open, full image", NODES, TURNS, 5, proved_open, plain_opened);
     for (uint32_t n = 4; n <= NODES; n *= 2)
-        write_line("write, full image", n);
+        write_line("write, full image", n, DENSE, proved_write, plain_write);
+    for (uint32_t n = 4; n <= NODES; n *= 2)
+        write_line("write, exact output, full", n, DENSE, proved_exact, plain_exact);
+    for (uint32_t n = 4; n <= NODES; n *= 8)
+        write_line("write, exact, 1 arc in 8", n, SPARSE, proved_exact, plain_exact);
     call_line("C call, full image", NODES, 4);
     full_file(10);
     call_line("C call, and 10 full rounds", NODES, 2);
@@ -386,7 +452,7 @@ static void message_file(void)
     base = BASE;
     nodes = plain.n;
     room = MAX_MESSAGES;
-    held(plain_write_messages(&plain, base, file, room, &size) == 0, "messages");
+    held(same() && plain_write_messages(&plain, base, file, room, &size) == 0, "messages");
 }
 
 static void message_line(const char *writing, const char *reading, uint32_t n)
@@ -404,7 +470,7 @@ static void message_line(const char *writing, const char *reading, uint32_t n)
 static void message_lines(void)
 {
     for (uint32_t n = 4; n <= NODES; n *= 2) {
-        full_network(n);
+        settled(n, DENSE);
         message_line("write messages, dense", "read messages, dense", n);
     }
     chain_network(NODES);
@@ -456,6 +522,7 @@ int main(void)
 {
     title("microseconds");
     round_lines();
+    refused_lines();
     file_lines();
     message_lines();
     growth_lines();
