@@ -13,16 +13,23 @@ import sys
 
 import reader
 
-WORDS = 3200
+# The words of a network, and which of them is n.
+WORDS = 3232
+N_WORD = 0
+# The receivers that arcs are asked for: every node, and numbers past n.
+RECEIVERS = (*range(34), 63, 255, 256, 65_536, 2**31, 2**32 - 1)
 MOST_SHOWN = 10
 # What a lent output holds before a call.
 PATTERN = bytes((37 * i + 11) % 256 for i in range(17_000))
+FILLING = 0xA5A5A5A5A5A5A5A5
 # The numbers that each call can give.
 NUMBERS = {
     "open": {0, 1, 2, 3, 4, 5, 10, 11, 12},
     "run": {0, 1, 2, 3, 4, 5, 7, 10, 11, 12},
     "image": {0, 6},
     "route": {0, 3, 6, 8, 9},
+    "arcs": {0, 3},
+    "fresh": {0, 3},
     "change": {0, 3},
     "grade": {0, 3},
     "round": {0, 1, 3, 7},
@@ -40,14 +47,22 @@ class Library:
         self.calls = ctypes.CDLL(path)
         self.net = (ctypes.c_uint32 * WORDS)()
         self.answer = (ctypes.c_uint64 * 3)()
+        self.calls.bench_arcs.argtypes = ctypes.c_void_p, ctypes.c_uint32, ctypes.c_void_p
+        self.calls.bench_arcs.restype = None
+        # The answers for all receivers, with a word after each.
+        self.found = (ctypes.c_uint64 * (3 * len(RECEIVERS)))()
         self.out = ctypes.create_string_buffer(len(PATTERN))
 
     def network(self):
         return bytes(self.net)
 
+    def fill(self):
+        """Words that are no network."""
+        ctypes.memset(self.net, 0xA5, 4 * WORDS)
+
     def opened(self, name, data):
         """Opening or a run: three numbers; the network is in self.net."""
-        ctypes.memset(self.net, 0xA5, 4 * WORDS)
+        self.fill()
         getattr(self.calls, "bench_" + name)(data, ctypes.c_uint64(len(data)), self.answer, self.net)
         return tuple(self.answer)
 
@@ -59,6 +74,17 @@ class Library:
         number, length = self.answer[0], self.answer[1]
         kept = min(length, room)
         return number, length, self.out.raw[:kept], self.out.raw[kept:] == PATTERN[kept:]
+
+    def arcs(self):
+        """Number and word for each of RECEIVERS, and whether every other word is as it stood."""
+        before = self.network()
+        ctypes.memset(self.found, 0xA5, 24 * len(RECEIVERS))
+        net, answer = ctypes.addressof(self.net), ctypes.addressof(self.found)
+        for receiver in RECEIVERS:
+            self.calls.bench_arcs(net, receiver, answer)
+            answer += 24
+        found = self.found[:]
+        return list(zip(found[0::3], found[1::3])), set(found[2::3]) == {FILLING} and self.network() == before
 
     def called(self, name, arguments):
         """A call on the network in self.net, with numbers or with a list of words: the number."""
@@ -77,6 +103,8 @@ class Comparison:
         self.cases = 0
         self.differences = 0
         self.seen = {name: [0] * (MOST_NUMBER + 1) for name in NUMBERS}
+        # The image of the network that the library holds.
+        self.held = b""
 
     def same(self, name, number, case, ours, theirs):
         self.cases += 1
@@ -101,9 +129,13 @@ class Comparison:
         self.same("route", number, f"network {reader.image(network).hex()} node {node} room {room}", (number, len(nodes), nodes, True, True), theirs)
 
     def net(self, name, number, case, network, ours, theirs):
-        """The answer and, by its image, the network."""
-        image = reader.image(network)
-        self.same(name, number, case, (*ours, 0, image), (*theirs, *self.library.written("image", len(image))[0:3:2]))
+        """The answer and, by its image and its arcs, the network."""
+        self.held = reader.image(network)
+        arcs = [reader.arcs(network, receiver) for receiver in RECEIVERS]
+        for refused, _ in arcs:
+            self.seen["arcs"][refused] += 1
+        written = self.library.written("image", len(self.held))[0:3:2]
+        self.same(name, number, case, (*ours, 0, self.held, arcs, True), (*theirs, *written, *self.library.arcs()))
 
     def open(self, data):
         number, place, used, network = reader.open(data)
@@ -116,6 +148,24 @@ class Comparison:
         theirs = self.library.opened("run", data)
         self.net("run", number, data.hex(), network, (number, place, rounds), theirs)
         return number, network
+
+    def fresh(self, n, origin):
+        number, network = reader.fresh(n, origin)
+        self.library.fill()
+        theirs = self.library.called("fresh", (n, origin))
+        self.net("fresh", number, (n, origin), network, (number,), (theirs,))
+        return network
+
+    def set_n(self, network, word):
+        """Another n in the words of the network that the library holds: above 32 it counts as 32, and fewer nodes are the first ones."""
+        case = f"network {self.held.hex()} n {word}"
+        self.library.net[N_WORD] = word
+        network.n = min(word, reader.MOST_NODES)
+        for pairs in (network.cost, network.held):
+            for pair in [pair for pair in pairs if max(pair) >= network.n]:
+                del pairs[pair]
+        network.rows = {node: row for node, row in network.rows.items() if node < network.n}
+        self.net("arcs", 0, case, network, (), ())
 
     def outputs(self, network):
         """Outputs of several lengths for the network that the library holds."""
@@ -131,11 +181,13 @@ class Comparison:
     def call(self, name, network, *arguments):
         """A change, a grade, a round, a row or a report on the network that the library holds: refused, every word of it has to stay."""
         before = self.library.network()
-        case = f"network {reader.image(network).hex()} {name} {arguments}"
+        case = f"network {self.held.hex()} {name} {arguments}"
         number = getattr(reader, name)(network, *arguments)
         theirs = self.library.called(name, arguments)
-        kept = number == 0 or self.library.network() == before
-        self.net(name, number, case, network, (number, True), (theirs, kept))
+        if number == 0:
+            self.net(name, number, case, network, (number,), (theirs,))
+        else:
+            self.same(name, number, case, (number, True), (theirs, self.library.network() == before))
 
     def calls(self, network):
         """Changes, grades, rounds, rows and reports with numbers in and out of range."""
@@ -461,6 +513,19 @@ def some_run(rng, network, image):
     return out
 
 
+def arc_words(network):
+    """The marks of a round in which every arc is heard."""
+    return [reader.arcs(network, receiver)[1] for receiver in range(32)]
+
+
+def turned(words, *pairs):
+    """The words with the bits of these pairs of sender and receiver turned over."""
+    words = list(words)
+    for sender, receiver in pairs:
+        words[receiver] ^= reader.bit(sender)
+    return words
+
+
 # The cases
 
 
@@ -554,6 +619,76 @@ def placing_cases(compare):
                 compare.call(name, opened, *case)
 
 
+def set_pairs(compare, network, pairs, cost, value):
+    """Each of the pairs, in some order, by its cost or by a grade."""
+    for pair in compare.rng.sample(pairs, len(pairs)):
+        name, number = compare.rng.choice((("change", cost), ("grade", value)))
+        compare.call(name, network, *pair, number)
+
+
+def pair_cases(compare):
+    """Fresh networks. In some of them every arc is added; those with a report are removed and added; every arc is removed."""
+    for n in [*range(35), 256, 257, 2**31 + 1, 2**32 - 1]:
+        for origin in {0, n - 1, n, 31, 32, 256} - {-1}:
+            compare.fresh(n, origin)
+    for n, rounds in ((2, 2), (5, 3), (32, 1)):
+        network = compare.fresh(n, n // 2)
+        pairs = [(sender, receiver) for sender in range(n) for receiver in range(n) if sender != receiver]
+        set_pairs(compare, network, pairs, 1, 15)
+        for _ in range(rounds):
+            compare.call("round", network, arc_words(network))
+        for pair in list(network.held):
+            set_pairs(compare, network, [pair], 0, 0)
+            set_pairs(compare, network, [pair], 256, 1)
+        set_pairs(compare, network, pairs, 0, 0)
+
+
+def stray_pairs(n):
+    """Marks out of range among n nodes: of a node on itself, and of absent nodes."""
+    pairs = [(0, 0), (n - 1, n - 1)]
+    if n < 32:
+        pairs += [(n, 0), (n, n - 1), (31, 0), (31, n - 1), (0, n), (n - 1, n), (n, n), (0, 31), (31, 31)]
+    return pairs
+
+
+def mark_cases(compare):
+    """Each of the 1,024 bits, turned over in the arcs' words and alone; a mark without an arc beside one out of range, which decides, or another."""
+    rng = compare.rng
+    for n, density in ((1, 1), (2, 0.5), (3, 0.7), (8, 0.9), (17, 0.3), (31, 0.1), (32, 0.1)):
+        image = reader.image(some_network(rng, n, density))
+        _, network = compare.open(image)
+        words, none = arc_words(network), [0] * 32
+        for pair, others in itertools.product(itertools.product(range(32), repeat=2), (words, none)):
+            compare.call("round", network, turned(others, pair))
+            if pair in network.cost:
+                _, network = compare.open(image)
+        without = [(sender, receiver) for receiver in range(n) for sender in range(n) if sender != receiver and (sender, receiver) not in network.cost]
+        some = sorted({*without[:3], *without[-3:], *rng.sample(without, min(len(without), 20))})
+        for pair, stray, others in itertools.product(some, stray_pairs(n), (words, none)):
+            compare.call("round", network, turned(others, pair, stray))
+        for pair, other in itertools.combinations(some, 2):
+            compare.call("round", network, turned(words, pair, other))
+        compare.call("round", network, words)
+
+
+def other_n_cases(compare):
+    """Words that no call made: networks whose n is set to another number, with calls and marks."""
+    rng = compare.rng
+    for n, density, numbers in ((3, 1, range(3)), (8, 0.8, range(8)), (32, 0.4, (0, 1, 2, 15, 16, 17, 30, 31, 33, 64, 2**31, 2**32 - 1))):
+        network = some_network(rng, n, density)
+        network.origin = 0
+        network.rows.pop(0, None)
+        for number in numbers:
+            _, opened = compare.open(reader.image(network))
+            compare.set_n(opened, number)
+            words = arc_words(opened)
+            compare.call("round", opened, words)
+            for pair in stray_pairs(opened.n) if opened.n else [(0, 0), (31, 0), (0, 31)]:
+                compare.call("round", opened, turned(words, pair))
+            if opened.n:
+                compare.calls(opened)
+
+
 def full_cases(compare, count):
     """Networks of 32 nodes with every arc, row and report, damaged too, and inputs longer than any image."""
     rng = compare.rng
@@ -611,6 +746,9 @@ def main(arguments):
     fixed_cases(compare)
     equal_cases(compare)
     placing_cases(compare)
+    pair_cases(compare)
+    mark_cases(compare)
+    other_n_cases(compare)
     full_cases(compare, 1 + count // 10_000)
     random_cases(compare, count)
     print("call              cases" + "".join(f"{number:8}" for number in range(MOST_NUMBER + 1)))

@@ -27,7 +27,7 @@ MOST_NODES = 32
 # The longest messages.
 MOST_BYTES = 648
 # The words of a network, and which of them is n.
-WORDS = 3200
+WORDS = 3232
 N_WORD = 0
 # What a lent output and the bytes around it hold before a call.
 AROUND = 64

@@ -1,4 +1,5 @@
-"""Document 01 with change requests One and Two in plain Python, for comparison with the proved code: networks, changes, grades, rounds, images, runs, routes.
+"""Document 01 with change requests One, Two and Four in plain Python, for comparison with the proved code: networks, changes, grades, arcs, rounds,
+images, runs, routes.
 
 Written from the papers alone. Every call answers a number first: 0, or the number that the papers refuse it under.
 """
@@ -53,6 +54,13 @@ def row(network, node):
     if node == network.origin:
         return 0, None, bit(node)
     return network.rows.get(node)
+
+
+def arcs(network, receiver):
+    """The number and the receiver's arcs as a word: bit s is 1 exactly when the arc from s is present."""
+    if receiver >= network.n:
+        return 3, 0
+    return 0, sum(bit(sender) for sender in range(network.n) if (sender, receiver) in network.cost)
 
 
 # Changing an arc

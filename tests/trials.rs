@@ -13,7 +13,7 @@ use std::ops::AddAssign;
 mod calls {
     use crate::central::Row;
 
-    const WORDS: usize = 3200;
+    const WORDS: usize = 3232;
     type Words = [u32; WORDS];
 
     /// Bytes of the longest image.
