@@ -645,14 +645,14 @@ def pair_cases(compare):
 
 def stray_pairs(n):
     """Marks out of range among n nodes: of a node on itself, and of absent nodes."""
-    pairs = [(0, 0), (n - 1, n - 1)]
+    pairs = {(0, 0), (n - 1, n - 1)}
     if n < 32:
-        pairs += [(n, 0), (n, n - 1), (31, 0), (31, n - 1), (0, n), (n - 1, n), (n, n), (0, 31), (31, 31)]
-    return pairs
+        pairs |= {(n, 0), (n, n - 1), (31, 0), (31, n - 1), (0, n), (n - 1, n), (n, n), (0, 31), (31, 31)}
+    return sorted(pairs)
 
 
 def mark_cases(compare):
-    """Each of the 1,024 bits, turned over in the arcs' words and alone; a mark without an arc beside one out of range, which decides, or another."""
+    """Each of the 1,024 bits, turned over in the arcs' words and alone; two faults: a mark out of range decides wherever it lies."""
     rng = compare.rng
     for n, density in ((1, 1), (2, 0.5), (3, 0.7), (8, 0.9), (17, 0.3), (31, 0.1), (32, 0.1)):
         image = reader.image(some_network(rng, n, density))
@@ -666,8 +666,8 @@ def mark_cases(compare):
         some = sorted({*without[:3], *without[-3:], *rng.sample(without, min(len(without), 20))})
         for pair, stray, others in itertools.product(some, stray_pairs(n), (words, none)):
             compare.call("round", network, turned(others, pair, stray))
-        for pair, other in itertools.combinations(some, 2):
-            compare.call("round", network, turned(words, pair, other))
+        for two in itertools.chain(itertools.combinations(some, 2), itertools.combinations(stray_pairs(n), 2)):
+            compare.call("round", network, turned(words, *two))
         compare.call("round", network, words)
 
 
