@@ -106,13 +106,15 @@ static uint64_t proved_answer[3], plain_answer[3];
 static void proved_write(void) { bench_image(words, proved_out, sizeof proved_out, proved_answer); }
 static void plain_write(void) { plain_answer[0] = (uint64_t)plain_image(&plain, plain_out, sizeof plain_out, &plain_answer[1]); }
 
-static int same_images(work a, work b)
+/* both answer this number, and the same image */
+static int same_images(work a, work b, uint64_t number)
 {
     memset(proved_out, 0xff, sizeof proved_out);
     memset(plain_out, 0xff, sizeof plain_out);
     a();
     b();
-    return proved_answer[0] == 0 && !memcmp(proved_answer, plain_answer, 2 * sizeof *plain_answer) && !memcmp(proved_out, plain_out, sizeof plain_out);
+    return proved_answer[0] == number && plain_answer[0] == number && proved_answer[1] == plain_answer[1] &&
+           !memcmp(proved_out, plain_out, sizeof plain_out);
 }
 
 static int same_arcs(void)
@@ -127,7 +129,7 @@ static int same_arcs(void)
     return alike;
 }
 
-static int same(void) { return same_images(proved_write, plain_write) && same_arcs(); }
+static int same(void) { return same_images(proved_write, plain_write, 0) && same_arcs(); }
 
 /* ---- rounds */
 
@@ -239,7 +241,7 @@ static void growth_lines(void)
     }
 }
 
-/* ---- the test of marks by itself: every arc is marked, and the last pair of a sender and a receiver, which has no arc */
+/* ---- the test of marks by itself: every arc is marked, and the last pair, which has none; a round would change the network, as it is fresh */
 
 static void proved_refused(void) { proved_answer[0] = bench_round(words, marks[0], NODES); }
 static void plain_refused(void) { plain_answer[0] = (uint64_t)plain_round(&plain, marks[0], NODES); }
@@ -255,7 +257,7 @@ static void refused_line(const char *name, uint32_t n, const struct kind *kind)
 {
     static uint32_t words_before[WORDS];
     static struct plain_net plain_before;
-    settled(n, kind);
+    build(n, kind);
     held(bench_change(words, n - 2, n - 1, 0) == plain_change(&plain, n - 2, n - 1, 0), "change");
     marks[0][n - 1] |= 1u << (n - 2);
     held(same(), name);
@@ -337,7 +339,7 @@ static void call_line(const char *name, uint32_t n, int count)
     held(same_calls(), name);
 }
 
-/* image writing into an output as long as the image */
+/* image writing into an output as long as the image; a byte less is refused */
 static uint64_t exact;
 
 static void proved_exact(void) { bench_image(words, proved_out, exact, proved_answer); }
@@ -347,10 +349,12 @@ static void write_line(const char *name, uint32_t n, const struct kind *kind, wo
 {
     settled(n, kind);
     held(same(), name);
-    exact = plain_answer[1];
-    held(same_images(a, b), name);
+    exact = plain_answer[1] - 1;
+    held(same_images(proved_exact, plain_exact, 6), name);
+    exact++;
+    held(same_images(a, b, 0), name);
     print(name, n, measure(a, b, TURNS, 1 + 10000 / (int)(n * n)));
-    held(same_images(a, b), name);
+    held(same_images(a, b, 0), name);
 }
 
 static void file_lines(void)
