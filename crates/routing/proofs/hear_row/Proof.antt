@@ -14,7 +14,7 @@ use Rattle.network.proofs.Arcs.{hear-ext}
 use Rattle.memory.specs.Layout.{wordCount, view}
 use Rattle.routing.specs.Inner.{Hears, OnArc, rowMarks}
 use Rattle.routing.proofs.Marks.{beyond}
-use Rattle.routing.proofs.Hearing.{hears-first, row-unmarked, row-next, row-rest, node-kept, bit-on}
+use Rattle.routing.proofs.Hearing.{hears-first, row-unmarked, row-next, row-four, row-rest, node-kept, bit-on}
 use Rattle.routing.proofs.hear_row.Statement.{statement}
 use Rattle.routing.proofs.hear_row.Tie as tie
 
@@ -45,11 +45,23 @@ cast-bits c = omega (arith, c .before .loop .inv .2)
 shr-bits : tie.Need-shr-bits Inv-loop μ-loop
 shr-bits c = omega (arith, c .before .before .before .pre .1 .1 .0)
 
+loop-again : tie.Need-loop-again Inv-loop μ-loop
+loop-again c =
+    let l = c .before .before .loop in
+    let a = c .before .before .before .before .args in
+    let p = c .before .before .before .before .pre in
+    let w = now (a .net) in (
+      record { net = l .inv .0 .net ∙ hear-ext _ _ (view w) (row-four (a .receiver) (a .word) (l .s) (c .if1 .taken)); primed = l .inv .0 .primed },
+      l .inv .1,
+      omega (arith, l .inv .3, p .1 .1 .0, c .before .loop-test .taken),
+      omega (arith, l .inv .3),
+    )
+
 hear-arc-requires : tie.Need-hear-arc-requires Inv-loop μ-loop
 hear-arc-requires c κs =
-    let l = c .before .before .before .loop in
-    let a = c .before .before .before .before .before .args in
-    let p = c .before .before .before .before .before .pre in
+    let l = c .before .before .before .before .loop in
+    let a = c .before .before .before .before .before .before .args in
+    let p = c .before .before .before .before .before .before .pre in
     let w = now (a .net) in
     let r = a .receiver in
     let h0 = l .inv .0 in (
@@ -69,9 +81,9 @@ hear-arc-requires c κs =
 
 hear-arc-requires-2 : tie.Need-hear-arc-requires-2 Inv-loop μ-loop
 hear-arc-requires-2 c κs =
-    let l = c .before .before .before .before .before .before .before .before .loop in
-    let a = c .before .before .before .before .before .before .before .before .before .before .args in
-    let p = c .before .before .before .before .before .before .before .before .before .before .pre in
+    let l = c .before .before .before .before .before .before .before .before .before .loop in
+    let a = c .before .before .before .before .before .before .before .before .before .before .before .args in
+    let p = c .before .before .before .before .before .before .before .before .before .before .before .pre in
     let w = now (a .net) in
     let r = a .receiver in
     let h0 = l .inv .0 in
@@ -93,9 +105,9 @@ hear-arc-requires-2 c κs =
 
 hear-arc-requires-3 : tie.Need-hear-arc-requires-3 Inv-loop μ-loop
 hear-arc-requires-3 c κs =
-    let l = c .before .before .before .before .before .before .before .before .before .before .before .before .before .loop in
-    let a = c .before .before .before .before .before .before .before .before .before .before .before .before .before .before .before .args in
-    let p = c .before .before .before .before .before .before .before .before .before .before .before .before .before .before .before .pre in
+    let l = c .before .before .before .before .before .before .before .before .before .before .before .before .before .before .loop in
+    let a = c .before .before .before .before .before .before .before .before .before .before .before .before .before .before .before .before .args in
+    let p = c .before .before .before .before .before .before .before .before .before .before .before .before .before .before .before .before .pre in
     let w = now (a .net) in
     let r = a .receiver in
     let h0 = l .inv .0 in
@@ -119,9 +131,9 @@ hear-arc-requires-3 c κs =
 
 hear-arc-requires-4 : tie.Need-hear-arc-requires-4 Inv-loop μ-loop
 hear-arc-requires-4 c κs =
-    let l = c .before .before .before .before .before .before .before .before .before .before .before .before .before .before .before .before .before .before .loop in
-    let a = c .before .before .before .before .before .before .before .before .before .before .before .before .before .before .before .before .before .before .before .before .args in
-    let p = c .before .before .before .before .before .before .before .before .before .before .before .before .before .before .before .before .before .before .before .before .pre in
+    let l = c .before .before .before .before .before .before .before .before .before .before .before .before .before .before .before .before .before .before .before .loop in
+    let a = c .before .before .before .before .before .before .before .before .before .before .before .before .before .before .before .before .before .before .before .before .before .args in
+    let p = c .before .before .before .before .before .before .before .before .before .before .before .before .before .before .before .before .before .before .before .before .before .pre in
     let w = now (a .net) in
     let r = a .receiver in
     let h0 = l .inv .0 in
@@ -135,21 +147,21 @@ hear-arc-requires-4 c κs =
       (
         h3 .primed,
         (
-          omega (arith, l .inv .3, p .1 .1 .0, c .before .before .before .before .before .before .before .before .before .before .before .before .before .before .before .before .before .loop-test .taken),
+          omega (arith, l .inv .3, p .1 .1 .0, c .before .before .before .before .before .before .before .before .before .before .before .before .before .before .before .before .before .before .loop-test .taken),
           (
             node-kept _ (view w) _ r h3 (p .1 .1 .1 .0 .below),
             subst (OnArc (z3 .last .0) (l .s + 3) r) (sym (told (a .word) (l .s) 3 (l .s + 3) (omega arith) (c .listed4 .ensures)))
-                (bit-on _ w (z3 .last .0) (l .s + 3) r (a .word) h3 (omega (arith, l .inv .3, p .1 .1 .0, c .before .before .before .before .before .before .before .before .before .before .before .before .before .before .before .before .before .loop-test .taken)) (p .1 .1 .1 .1)),
+                (bit-on _ w (z3 .last .0) (l .s + 3) r (a .word) h3 (omega (arith, l .inv .3, p .1 .1 .0, c .before .before .before .before .before .before .before .before .before .before .before .before .before .before .before .before .before .before .loop-test .taken)) (p .1 .1 .1 .1)),
           ),
         ),
       ),
     )
 
-loop-again : tie.Need-loop-again Inv-loop μ-loop
-loop-again c =
-    let l = c .before .before .before .before .before .before .before .before .before .before .before .before .before .before .before .before .before .before .before .before .before .loop in
-    let a = c .before .before .before .before .before .before .before .before .before .before .before .before .before .before .before .before .before .before .before .before .before .before .before .args in
-    let p = c .before .before .before .before .before .before .before .before .before .before .before .before .before .before .before .before .before .before .before .before .before .before .before .pre in
+loop-again-2 : tie.Need-loop-again-2 Inv-loop μ-loop
+loop-again-2 c =
+    let l = c .before .before .before .before .before .before .before .before .before .before .before .before .before .before .before .before .before .before .before .before .before .before .loop in
+    let a = c .before .before .before .before .before .before .before .before .before .before .before .before .before .before .before .before .before .before .before .before .before .before .before .before .args in
+    let p = c .before .before .before .before .before .before .before .before .before .before .before .before .before .before .before .before .before .before .before .before .before .before .before .before .pre in
     let w = now (a .net) in
     let r = a .receiver in
     let h0 = l .inv .0 in
@@ -161,7 +173,7 @@ loop-again c =
     let h3 = row-next w (z2 .last .0) (z3 .last .0) r (a .word) (l .s + 2) (l .s + 3) _ (told (a .word) (l .s) 2 (l .s + 2) (omega arith) (c .before .before .before .before .before .before .before .before .listed3 .ensures)) (omega arith) h2 (z3 .ensures) in
     let z4 = c .before .before .hear-arc4 in
     let h4 = row-next w (z3 .last .0) (z4 .last .0) r (a .word) (l .s + 3) (l .s + 4) _ (told (a .word) (l .s) 3 (l .s + 3) (omega arith) (c .before .before .before .listed4 .ensures)) (omega arith) h3 (z4 .ensures) in
-    (h4, z4 .kept .0 ∙ z3 .kept .0 ∙ z2 .kept .0 ∙ z1 .kept .0 ∙ l .inv .1, omega (arith, l .inv .3, p .1 .1 .0, c .before .before .before .before .before .before .before .before .before .before .before .before .before .before .before .before .before .before .before .before .loop-test .taken), omega (arith, l .inv .3))
+    (h4, z4 .kept .0 ∙ z3 .kept .0 ∙ z2 .kept .0 ∙ z1 .kept .0 ∙ l .inv .1, omega (arith, l .inv .3, p .1 .1 .0, c .before .before .before .before .before .before .before .before .before .before .before .before .before .before .before .before .before .before .before .before .before .loop-test .taken), omega (arith, l .inv .3))
 
 same-length : tie.Need-same-length Inv-loop μ-loop
 same-length c = c .before .loop .inv .1 ∙ sym (c .before .before .before .pre .0)
@@ -188,6 +200,9 @@ hear-row-spec =
     loop-holds
     cast-bits
     shr-bits
+    (λ c. omega arith)
+    (λ c. omega arith)
+    loop-again
     (λ c κs. search needs)
     hear-arc-requires
     (λ c. omega arith)
@@ -201,6 +216,6 @@ hear-row-spec =
     hear-arc-requires-4
     (λ c. omega arith)
     (λ c. omega arith)
-    loop-again
+    loop-again-2
     same-length
     returns)
