@@ -48,7 +48,7 @@ offer-most-requires : tie.Need-offer-most-requires Inv-loop μ-loop
 offer-most-requires c κs =
     let a = c .before .before .before .before .before .before .before .before .before .before .args in
     let fits = least-fits (a .arcs) (now (a .costs)) (now (a .labels)) (now (a .lists)) (a .receiver) _ _ _ (c .before .before .before .before .before .before .before .before .before .before .pre .1 .1 .1) in
-    (omega arith, fits)
+    (omega arith, omega (arith, fits))
 
 loop-again : tie.Need-loop-again Inv-loop μ-loop
 loop-again c =
