@@ -4,17 +4,15 @@ use mathlib.Core.Path.{_≡_, refl, sym, ap, ap₂, subst, _∙_}
 use mathlib.Core.Bool.{Bool, true, false, cond, _&&_, _||_, and-false, or-false}
 use mathlib.Core.Logic.{_⊎_, inl, inr, _≢_}
 use mathlib.Core.List.{List}
-use Prim.Native.Nat.{ℕ, _+_, _*_, _<_, _≤_, zero, suc, _-_, _/_, _%_, _^_}
+use Prim.Native.Nat.{ℕ, _+_, _*_, _<_, _≤_}
 use native.Mathlib.Omega.{arith}
 use lib.Dec.{eqb, ltb}
-use lib.Bits.{bitAnd, and-mask}
 use lib.ListN.{length, getD, set, length-set}
 use lib.Seq.{getD-set-same, getD-set-other, set-getD}
 use borrow.Author.Tests.{lt-ltb, le-ltb, eq-eqb, ne-eqb}
 use Rattle.ancestors.specs.Ancestors.{has, own}
 use Rattle.ancestors.proofs.Cases.{bool-cases, le-or-lt, eq-or-ne, eqb-same, ltb-other, never}
 use Rattle.ancestors.proofs.Laws.{put-some}
-use Rattle.ancestors.proofs.Sets.{has-shifted}
 use Rattle.network.specs.Network.{none, root, via, Report, empty, told, Net, setPair, withHeld}
 use Rattle.network.specs.Round.{Marks, report, hear, everyArc}
 use Rattle.network.specs.Words.{reportOf}
@@ -220,34 +218,6 @@ pub row-next : (xs ys zs : List ℕ) (r w k j : ℕ) (t : Bool) → t ≡ has w 
 row-next xs ys zs r w k j t e q h g =
     hears-next (rowMarks r w k) (oneMark k r t) (rowMarks r w j) (view xs) ys zs (h .net) g
     (λ a b. ap (λ u. oneMark k r u a b || rowMarks r w k a b) e ∙ row-step r w k a b ∙ ap (λ i. rowMarks r w i a b) (sym q))
-
--- four senders without a mark
-four-none : (b k : ℕ) → bitAnd b 15 ≡ 0 → k < 4 → has b k ≡ false
-unfolding has
-four-none b k e h = ne-eqb (b / 2 ^ k % 2) 1 (go k h)
-  where
-    low : b % 16 ≡ 0
-    low = sym (and-mask b 4) ∙ e
-
-    go : (k : ℕ) → k < 4 → b / 2 ^ k % 2 ≢ 1
-    go zero h = λ z. omega (arith, low)
-    go (suc zero) h = λ z. omega (arith, low)
-    go (suc (suc zero)) h = λ z. omega (arith, low)
-    go (suc (suc (suc zero))) h = λ z. omega (arith, low)
-    go (suc (suc (suc (suc k)))) h = absurd (omega arith)
-
-pub row-four : (r w s : ℕ) → bitAnd (w / 2 ^ s) 15 ≡ 0 → (a b : ℕ) → rowMarks r w s a b ≡ rowMarks r w (s + 4) a b
-unfolding rowMarks
-row-four r w s e a b = ap (_&&_ (eqb b r)) (go (le-or-lt s a) (le-or-lt (s + 4) a))
-  where
-    go : (s ≤ a) ⊎ (a < s) → (s + 4 ≤ a) ⊎ (a < s + 4) → (ltb a s && has w a) ≡ (ltb a (s + 4) && has w a)
-    go (inl h) (inl j) = rw (le-ltb a s h, le-ltb a (s + 4) j)
-    go (inr h) (inl j) = absurd (omega arith)
-    go (inr h) (inr j) = rw (lt-ltb a s h, lt-ltb a (s + 4) j)
-    go (inl h) (inr j) =
-        let q : s + (a - s) ≡ a = omega arith in
-        let none : has w a ≡ false = sym (ap (has w) q) ∙ sym (has-shifted w s (a - s)) ∙ four-none (w / 2 ^ s) (a - s) e (omega arith) in
-        rw (none, and-false (ltb a s), and-false (ltb a (s + 4)))
 
 -- no mark is on a sender that is no node
 pub row-rest : (xs : List ℕ) (r w n k : ℕ) → n ≡ view xs .nodes → n ≤ k → k ≤ 32 → OnArcs xs r w

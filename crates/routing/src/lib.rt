@@ -62,7 +62,7 @@ fn hear_arc(net: &mut [u32], sender: usize, receiver: usize, told: bool)
     net[HELD_LISTS + at] = either(told, net[ROW_LISTS + sender], net[HELD_LISTS + at]);
 }
 
-// Four senders at a time: the compiler makes vector instructions of four arcs. Four that are not heard are passed; the last ones may be no nodes.
+// Four senders at a time: the compiler makes vector instructions of four arcs. The last ones may be no nodes; they are not heard.
 fn hear_row(net: &mut [u32], n: usize, receiver: usize, word: u32)
     requires { ⌜ length (now net) ≡ wordCount ⌝ }
     requires { ⌜ Primed (now net) ⌝ }
@@ -71,17 +71,14 @@ fn hear_row(net: &mut [u32], n: usize, receiver: usize, word: u32)
     requires { ⌜ OnArcs (now net) receiver word ⌝ }
     ensures { λ _. ⌜ Hears (now (net .exit)) (hear (rowMarks receiver word 32) (view (now (net .entry)))) ⌝ }
 {
+    let mut bits = word;
     let mut s: usize = 0;
     while s < n {
-        let bits = word >> (s as u32);
-        if bits & 15 == 0 {
-            s = s + 4;
-            continue;
-        }
         hear_arc(net, s, receiver, ancestors::listed(bits, 0));
         hear_arc(net, s + 1, receiver, ancestors::listed(bits, 1));
         hear_arc(net, s + 2, receiver, ancestors::listed(bits, 2));
         hear_arc(net, s + 3, receiver, ancestors::listed(bits, 3));
+        bits = bits >> 4;
         s = s + 4;
     }
 }
