@@ -11,7 +11,7 @@ use borrow.Author.Tests.{eqb-true, eq-eqb, lt-ltb, le-ltb}
 use lib.Pow.{split, pow-pos, pow-mono, shr-shr, field, mod-mod-pow}
 use lib.Bits.{bitAnd, bitXor, differ, and-shr, xor-shr, and-step, xor-step, and-le-l, xor-lt}
 use Rattle.ancestors.specs.Ancestors.{has, put, cut, inside, those}
-use Rattle.ancestors.proofs.Cases.{bool-cases, eq-or-ne, le-or-lt, never, eqb-same, any-below, ltb-other, and-both}
+use Rattle.ancestors.proofs.Cases.{bool-cases, eq-or-ne, never, any-below, ltb-other, and-both}
 use Rattle.ancestors.proofs.Laws.{one-same, one-other, has-put-same, has-put-other, has-empty, has-beyond, put-below, put-new, clear-bit}
 
 -- ---- bits

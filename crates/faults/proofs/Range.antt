@@ -12,7 +12,7 @@ use Rattle.ancestors.specs.Ancestors.{has, put, cut, those}
 use Rattle.ancestors.proofs.Cases.{le-or-lt, eq-or-ne}
 use Rattle.ancestors.proofs.Laws.{has-empty}
 use Rattle.ancestors.proofs.Sets.{has-those, those-ext, those-has, those-low, has-cut-same, has-cut-other, cut-below}
-use Rattle.network.specs.Faults.{maxNodes, pairFault}
+use Rattle.network.specs.Faults.{pairFault}
 use Rattle.network.specs.Arcs.{senders}
 use Rattle.network.proofs.FaultLaws.{pair-free, sender-bad, receiver-bad, pair-same}
 

@@ -1,29 +1,25 @@
 -- What the words give where a row, a cost, a report or a receiver's arcs are read.
 -- Assumes nothing.
-use mathlib.Core.Path.{_≡_, refl, sym, ap, _∙_}
-use mathlib.Core.Bool.{Bool, true, false, cond, not, _&&_, and-false}
+use mathlib.Core.Path.{_≡_, sym, ap, _∙_}
+use mathlib.Core.Bool.{Bool, true, false, cond, and-false}
 use mathlib.Core.Logic.{_≢_}
 use mathlib.Core.List.{List}
 use Prim.Native.Nat.{ℕ, _+_, _*_, _<_, _≤_}
 use native.Mathlib.Omega.{arith}
 use lib.Dec.{ltb}
-use lib.Bits.{bitAnd, and-le-r}
 use borrow.Author.Tests.{lt-ltb, le-ltb, eq-eqb, ne-eqb}
 use Rattle.ancestors.specs.Ancestors.{has, own, hops}
-use Rattle.ancestors.proofs.Sets.{has-and, those-has, those-ext}
 use Rattle.network.specs.Faults.{maxNodes, pairFault}
 use Rattle.network.specs.Network.{Row, Net}
-use Rattle.network.specs.Round.{everyArc}
-use Rattle.network.specs.Arcs.{arcsTo, senders}
-use Rattle.network.specs.Words.{reportOf, costOf}
-use Rattle.network.proofs.Arcs.{senders-has, senders-fit}
+use Rattle.network.specs.Arcs.{arcsTo}
+use Rattle.network.specs.Words.{reportOf}
 use Rattle.network.proofs.FaultLaws.{node-free, node-bad, pair-says}
-use Rattle.memory.specs.Layout.{present, look, view, rowOf, pairWord, costWord, heldLabelWord, heldListWord, arcBits, arcCosts, heldLabels, heldLists, rowLabels, rowLists, rowPredecessors}
+use Rattle.memory.specs.Layout.{look, view, rowOf, pairWord, costWord, heldLabelWord, heldListWord, arcBits, arcCosts, heldLabels, heldLists, rowLabels, rowLists, rowPredecessors}
 use Rattle.memory.specs.Answers.{RowAnswer, rowHops, readRow, rowMeans, readArcs, arcsMeans, readCost, costMeans, readHeld, heldMeans}
 use Rattle.memory.specs.declared.RowRead.the-variants as R
 use Rattle.memory.specs.declared.HeldRead.the-variants as H
 use Rattle.memory.proofs.Laws.{few, read-origin}
-use Rattle.memory.proofs.Store.{Has, present-in, arc-is, read-cost, read-held, cost-none, held-none, read-relay}
+use Rattle.memory.proofs.Store.{Has, present-in, read-cost, read-held, cost-none, held-none, read-relay}
 
 -- ---- rows
 

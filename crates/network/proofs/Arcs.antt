@@ -1,25 +1,24 @@
 -- Words of arcs and of what is in range: their bits, marks tested by one comparison of words, and a full round as a round on the arcs' words.
 -- Assumes nothing.
-use mathlib.Core.Path.{_≡_, refl, sym, ap, ap₂, subst, _∙_}
+use mathlib.Core.Path.{_≡_, refl, sym, ap, _∙_}
 use mathlib.Core.Bool.{Bool, true, false, cond, not, _&&_}
 use mathlib.Core.Logic.{_⊎_, inl, inr}
-use mathlib.Core.List.{List}
 use Prim.Native.Nat.{ℕ, zero, suc, _+_, _^_, _<_, _≤_}
 use native.Mathlib.Omega.{arith}
 use lib.Dec.{eqb, ltb}
 use lib.ListN.{length, getD}
 use borrow.Author.Tests.{lt-ltb, le-ltb, eq-eqb, ne-eqb}
-use Rattle.ancestors.specs.Ancestors.{has, inside, those}
-use Rattle.ancestors.proofs.Cases.{bool-cases, le-or-lt, never}
+use Rattle.ancestors.specs.Ancestors.{has, inside}
+use Rattle.ancestors.proofs.Cases.{bool-cases, le-or-lt}
 use Rattle.ancestors.proofs.Sets.{has-those, those-below, inside-has, outside-find}
 use Rattle.network.specs.Faults.{maxNodes, pairFault}
-use Rattle.network.specs.Network.{Net, Within}
-use Rattle.network.specs.Round.{Marks, report, hear, renew, round, marked, some, strayMark, idleMark, roundNumber, roundOf, everyArc, fullRoundOf}
+use Rattle.network.specs.Network.{Net}
+use Rattle.network.specs.Round.{Marks, report, hear, round, marked, some, strayMark, idleMark, roundNumber, roundOf, everyArc, fullRoundOf}
 use Rattle.network.specs.Arcs.{arcsTo, numbers, arcWords, senders, ArcsExact, FullRoundMarked}
 use Rattle.network.proofs.Effects.{same-reports}
 use Rattle.network.proofs.FaultLaws.{pair-says}
 use Rattle.network.proofs.Limits.{within-size}
-use Rattle.network.proofs.Marking.{some-here, some-none, some-ext, mark-says, every-arc}
+use Rattle.network.proofs.Marking.{some-here, some-none, every-arc}
 
 -- ---- bits
 

@@ -12,8 +12,8 @@ use borrow.Author.Tests.{lt-ltb, eqb-false}
 use Rattle.ancestors.specs.Ancestors.{has}
 use Rattle.ancestors.proofs.Cases.{bool-cases, never}
 use Rattle.network.specs.Faults.{pairFault}
-use Rattle.network.specs.Round.{marked, some, strayMark, idleMark, everyArc}
-use Rattle.network.specs.Arcs.{arcsTo, senders}
+use Rattle.network.specs.Round.{marked, strayMark, idleMark, everyArc}
+use Rattle.network.specs.Arcs.{arcsTo}
 use Rattle.network.proofs.Arcs.{arcs-exact, stray-bit, some-cost}
 use Rattle.network.proofs.Marking.{some-ext, marked-fails}
 use Rattle.memory.specs.Layout.{look, view, arcBits}

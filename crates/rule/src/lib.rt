@@ -98,15 +98,8 @@ fn fewest_ones(
     let mut fewest = ancestors::count_nodes(lists[first]);
     for s in first + 1..n {
         let list = lists[s];
-        let Offer::Sum(_) = offer_most(
-            arcs,
-            s as u32,
-            labels[s],
-            list,
-            costs[s],
-            receiver,
-            least,
-        ) else {
+        let Offer::Sum(_) = offer_most(arcs, s as u32, labels[s], list, costs[s], receiver, least)
+        else {
             continue;
         };
         let nodes = ancestors::count_nodes(list);

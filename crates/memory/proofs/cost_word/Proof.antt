@@ -1,6 +1,5 @@
 -- `memory::cost_word` meets its contract: one more than the low sixteen bits.
 -- Assumes nothing.
-use borrow.Author.Needs.{needs}
 use mathlib.Core.Path.{ap}
 use native.Mathlib.Omega.{arith}
 use Rattle.network.specs.Words.{costOf}

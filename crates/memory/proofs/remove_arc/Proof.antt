@@ -2,7 +2,6 @@
 -- Assumes nothing.
 use borrow.Author.Needs.{needs}
 use native.Mathlib.Omega.{arith}
-use lib.ListN.{length-set}
 use denote.Ref.{now}
 use Rattle.memory.proofs.Changing.{removed-words}
 use Rattle.memory.proofs.remove_arc.Statement.{statement}

@@ -2,7 +2,7 @@
 -- Assumes nothing.
 use borrow.Author.Needs.{needs}
 use native.Mathlib.Omega.{arith}
-use mathlib.Core.Path.{_≡_, sym, ap, _∙_}
+use mathlib.Core.Path.{sym, ap, _∙_}
 use mathlib.Core.Logic.{_≢_}
 use Prim.Native.Nat.{ℕ, _<_, _≤_}
 use Rattle.network.specs.Faults.{maxLabel}
