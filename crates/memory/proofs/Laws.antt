@@ -1,5 +1,5 @@
--- What crates above may cite of a network in words without knowing the layout: its size, the origin's row, what a row, a cost or a report that is read
--- says, and what a call leaves.
+-- What crates above may cite of a network in words without knowing the layout: its size, the origin's row, what a row or a cost that is read says, and
+-- what a call leaves.
 -- Assumes nothing.
 use mathlib.Core.Path.{_≡_, refl, sym, ap, _∙_}
 use mathlib.Core.Bool.{Bool, true, false, cond}
@@ -15,12 +15,11 @@ use Rattle.network.specs.Network.{Row, none, root, via, Report, empty, told, Ne
 use Rattle.network.proofs.FaultLaws.{node-free}
 use Rattle.network.proofs.Effects.{outcome-number, refused-net, accepted-net}
 use Rattle.memory.specs.Layout.{word, rowOf, nodeRow, netOf, frameIn, look, view, listWord, rowLabels, rowPredecessors, rowLists}
-use Rattle.memory.specs.Answers.{Leaves, Starts, RowAnswer, rowHops, readRow, rowMeans, arcsMeans, CostAnswer, readCost, costMeans, HeldAnswer, readHeld, heldMeans}
+use Rattle.memory.specs.Answers.{Leaves, Starts, RowAnswer, rowHops, readRow, rowMeans, arcsMeans, CostAnswer, readCost, costMeans, heldMeans}
 use Rattle.memory.specs.declared.RowRead.{RowRead}
 use Rattle.memory.specs.declared.RowRead.the-variants as R
 use Rattle.memory.specs.declared.CostRead.{CostRead}
 use Rattle.memory.specs.declared.ArcsRead.{ArcsRead}
-use Rattle.memory.specs.declared.HeldRead.{HeldRead}
 use Rattle.memory.specs.declared.HeldRead.the-variants as H
 
 -- a network has at most 32 nodes
@@ -135,37 +134,10 @@ module _ (x : Net) (y : ℕ) (r : RowRead) (said : rowMeans r ≡ readRow x y) w
 -- ---- what an answer says of the cost from s to t
 
 module _ (x : Net) (s t : ℕ) (r : CostRead) (said : costMeans r ≡ readCost x s t) where
-  -- they are no pair of nodes, or a pair of this cost
-  pub said-no-cost : pairFault (x .nodes) s t ≡ true → r .cost ≡ 0
-  unfolding readCost costMeans
-  said-no-cost f = ap (λ (a : CostAnswer). a .cost) (rw f at said)
-
+  -- a pair of nodes has this cost
   pub said-cost : pairFault (x .nodes) s t ≡ false → r .cost ≡ x .cost s t
   unfolding readCost costMeans
   said-cost f = ap (λ (a : CostAnswer). a .cost) (rw f at said)
-
--- ---- what an answer says of the report from s to t
-
-module _ (x : Net) (s t : ℕ) (r : HeldRead) (said : heldMeans r ≡ readHeld x s t) where
-  -- they are no pair of nodes
-  pub said-no-pair : r ≡ H.Refused → pairFault (x .nodes) s t ≡ true
-  unfolding readHeld heldMeans
-  said-no-pair e = refused (λ (a : HeldAnswer). a .number) (pairFault (x .nodes) s t) _ _ _ (sym (ap heldMeans e) ∙ said) refl refl
-
-  -- they are a pair with the report h
-  held-said : (h : Report) → heldMeans r ≡ record { number = 0; held = h } → (pairFault (x .nodes) s t ≡ false) × (x .held s t ≡ h)
-  unfolding readHeld
-  held-said h e =
-      let a = accepted (λ (b : HeldAnswer). b .number) (pairFault (x .nodes) s t) _ _ _ (sym e ∙ said) refl refl in
-      (a .0, sym (ap (λ (b : HeldAnswer). b .held) (a .1)))
-
-  pub said-empty : r ≡ H.Empty → (pairFault (x .nodes) s t ≡ false) × (x .held s t ≡ empty)
-  unfolding heldMeans
-  said-empty e = held-said empty (ap heldMeans e)
-
-  pub said-report : {d l : ℕ} → r ≡ H.Report d l → (pairFault (x .nodes) s t ≡ false) × (x .held s t ≡ told d l)
-  unfolding heldMeans
-  said-report {d} {l} e = held-said (told d l) (ap heldMeans e)
 
 -- ---- what a call leaves, from its number
 

@@ -68,13 +68,9 @@ not-not : (b : Bool) → not (not b) ≡ b
 not-not true = refl
 not-not false = refl
 
--- a bit outside of what is in range is a pair's fault, and one outside of the arcs has no cost
+-- a bit outside of what is in range is a pair's fault
 pub stray-bit : (n r s : ℕ) → s < maxNodes → not (has (senders n r) s) ≡ pairFault n s r
 stray-bit n r s h = ap not (senders-has n r s h) ∙ not-not (pairFault n s r)
-
-pub idle-bit : (x : Net) (r s : ℕ) → s < maxNodes → not (has (arcsTo x r) s) ≡ eqb (x .cost s r) 0
-unfolding everyArc
-idle-bit x r s h = ap not (arcs-exact x r s h) ∙ some-cost (x .cost s r)
 
 -- ---- a word tested by one comparison: some bit of it is outside of another
 
