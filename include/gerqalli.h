@@ -16,7 +16,7 @@ extern "C" {
 #define GERQALLI_MAX_IMAGE 16217
 
 /* Bytes of stack that a call uses at most: an upper bound, measured on x86-64. */
-#define GERQALLI_STACK 13312
+#define GERQALLI_STACK 13568
 
 /* The number in an answer. Numbers 8 and 9 belong to the route call; gerqalli_run never gives them. */
 enum gerqalli_number {
