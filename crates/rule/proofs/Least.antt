@@ -5,7 +5,7 @@ use mathlib.Core.Path.{_≡_, refl, sym, ap, subst, _∙_}
 use mathlib.Core.Bool.{Bool, true, false, cond, _||_}
 use mathlib.Core.Logic.{_⊎_, inl, inr, _≢_}
 use mathlib.Core.List.{List}
-use Prim.Native.Nat.{ℕ, _+_, _^_, _<_, _≤_}
+use Prim.Native.Nat.{ℕ, zero, suc, _+_, _-_, _^_, _<_, _≤_}
 use native.Mathlib.Omega.{arith}
 use native.Mathlib.Numerals.{add-one}
 use lib.Dec.{eqb, ltb, leb}
@@ -22,10 +22,7 @@ use Rattle.network.specs.Words.{reportOf, costOf, reports, costsOf, offersOf, o
 use Rattle.network.proofs.Offers.{nothing-sum, made, Before, Won, no-one, some-one, won, won-once}
 use Rattle.network.specs.declared.Offer.{Offer}
 use Rattle.network.specs.declared.Offer.the-variants.{Nothing, Sum}
-
--- the winner by its sum b, which is above the largest label where there is none, and its sender p
-unfoldable pub winnerOf : ℕ → ℕ → Winner
-winnerOf b p = cond (leb b maxLabel) (sender p b) nobody
+use Rattle.rule.specs.Passed.{winnerOf, Alone, Passed, Absent}
 
 -- ---- an offer below a limit
 
@@ -159,13 +156,14 @@ module _ (arcs : ℕ) (costs labels lists : List ℕ) (y : ℕ) where
       go : Won f c n (sender p b) → has arcs p ≡ true
       go (some-one below its low) = over-arc p b its .0
 
-  -- no sender after p and before s offers b or less
-  abbrev pub Alone : ℕ → ℕ → ℕ → Type 0
-  Alone b p s = (r v : ℕ) → p < r → r < s → f r ≡ Sum v → b < v
+  -- the senders before k were passed, as the loops keep the least sum so far
+  abbrev Known : ℕ → ℕ → ℕ → Bool → Type 0
+  Known = Passed arcs costs labels lists y
 
-  pub first-none : winner f alike 0 ≡ winnerOf (maxLabel + 1) 0
+  -- before the first of them
+  pub first-known : Known 0 maxLabel 0 false
   unfolding winner winnerOf
-  first-none = refl
+  first-known = record { least = refl; fits = omega arith; only = λ e r v after below o. absurd (omega arith) }
 
   module _ (s b p : ℕ) (e : winner f alike s ≡ winnerOf b p) where
     -- an offer that is not below the least sum is passed
@@ -188,7 +186,8 @@ module _ (arcs : ℕ) (costs labels lists : List ℕ) (y : ℕ) where
         (winner-takes f alike s b p e v (o .0) k (λ _. before-lesser v 0 b 0 (o .1)), k)
 
   -- passed with an empty report or another sum than b, it leaves p alone
-  pub alone-pass : (s b p : ℕ) → Alone b p s → offerBelow b (f s) ≡ Nothing → (getD lists s 0 ≢ 0 → getD labels s 0 + costOf (getD costs s 0) ≢ b) → Alone b p (s + 1)
+  pub alone-pass : (s b p : ℕ) → Alone arcs costs labels lists y b p s → offerBelow b (f s) ≡ Nothing
+      → (getD lists s 0 ≢ 0 → getD labels s 0 + costOf (getD costs s 0) ≢ b) → Alone arcs costs labels lists y b p (s + 1)
   alone-pass s b p before h apart r v after below o = go (eq-or-ne r s)
     where
       last : f s ≡ Sum v → (f s ≡ Nothing) ⊎ ((u : ℕ) × (f s ≡ Sum u) × (b ≤ u)) → b < v
@@ -201,6 +200,35 @@ module _ (arcs : ℕ) (costs labels lists : List ℕ) (y : ℕ) where
       go : (r ≡ s) ⊎ (r ≢ s) → b < v
       go (inl e) = let q : f s ≡ Sum v = rw e at o in last q (below-nothing b (f s) h)
       go (inr e) = before r v after (omega (arith, e)) o
+
+  -- a sender without an arc offers nothing
+  absent-nothing : (s : ℕ) → has arcs s ≡ false → f s ≡ Nothing
+  unfolding offer
+  absent-nothing s e = rw e
+
+  -- one such sender is passed, and any number of them
+  absent-one : (s m p : ℕ) (a : Bool) → has arcs s ≡ false → Known s m p a → Known (s + 1) m p a
+  absent-one s m p a e known =
+      record {
+        least = winner-skips f alike s (m + 1) p (known .least) (absent-nothing s e);
+        fits = known .fits;
+        only = λ h r v after below o. go (known .only h) r v after below o (eq-or-ne r s);
+      }
+    where
+      go : Alone arcs costs labels lists y (m + 1) p s → (r v : ℕ) → p < r → r < s + 1 → f r ≡ Sum v → (r ≡ s) ⊎ (r ≢ s) → m + 1 < v
+      go before r v after below o (inl q) = nothing-sum (f s) (absent-nothing s e) (rw q at o)
+      go before r v after below o (inr q) = before r v after (omega (arith, q)) o
+
+  absent-some : (j s m p : ℕ) (a : Bool) → Absent arcs s (s + j) → Known s m p a → Known (s + j) m p a
+  absent-some zero s m p a none-has known = subst (λ k. Known k m p a) (omega arith) known
+  absent-some (suc j) s m p a none-has known =
+      subst (λ k. Known k m p a) (omega arith)
+      (absent-one (s + j) m p a (none-has (s + j) (omega arith) (omega arith)) (absent-some j s m p a (λ i from below. none-has i from (omega arith)) known))
+
+  pub absent-pass : (s k m p : ℕ) (a : Bool) → s ≤ k → Absent arcs s k → Known s m p a → Known k m p a
+  absent-pass s k m p a h none-has known =
+      let e : s + (k - s) ≡ k = omega arith in
+      subst (λ i. Known i m p a) e (absent-some (k - s) s m p a (subst (λ i. Absent arcs s i) (sym e) none-has) known)
 
   -- after the first loop
   module _ (n b p : ℕ) (e : winner f alike n ≡ sender p b) where
@@ -240,7 +268,7 @@ module _ (arcs : ℕ) (costs labels lists : List ℕ) (y : ℕ) where
         go (some-one below its low) = less (low r v (omega arith) (λ q. omega arith) o)
 
     -- where the least sum is not met again, its sender wins
-    pub alone-wins : Alone b p n → winner f g n ≡ sender p b
+    pub alone-wins : Alone arcs costs labels lists y b p n → winner f g n ≡ sender p b
     alone-wins alone = won-once f g n (winner f g n) (sender p b) (won f g n) (go first-won)
       where
         more : (r v : ℕ) → r < n → r ≢ p → f r ≡ Sum v → (r ≤ p) ⊎ (p < r) → b < v

@@ -12,6 +12,7 @@ ghost use Rattle.network.specs.Network.{empty};
 ghost use Rattle.network.specs.Round.{offer, sender, winner, choice};
 ghost use Rattle.network.specs.Words.{reportOf, costOf, reports, costsOf, offersOf, onesOf, alike, offerBelow, chosen, chooseOf, choiceMeans};
 ghost use Rattle.rule.specs.Totals.{Totals};
+ghost use Rattle.rule.specs.Passed.{Passed, Absent};
 use network::Choice;
 use network::Offer;
 
@@ -111,20 +112,51 @@ fn fewest_ones(
     from
 }
 
-// The least offer of the senders, of equals that of fewest ones, and then the lowest sender's. Ones are counted only if the least sum is met again.
-// Sums are compared less one: `most` is that of the least sum so far.
-fn least_offer(arcs: u32, costs: &[u32], labels: &[u32], lists: &[u32], receiver: u32) -> Choice
+// The place of the lowest bit that is 1, and 32 where there is none.
+fn lowest_bit(word: u32) -> u32
+    ensures { λ r. ⌜ (r ≤ 32) × Absent word 0 r ⌝ }
+{
+    u32::trailing_zeros(word)
+}
+
+// The first sender from one on that has an arc, and 32 or more where there is none.
+fn next_arc(arcs: u32, s: usize) -> usize
+    requires { ⌜ s < 32 ⌝ }
+    ensures { λ r. ⌜ (s ≤ r) × Absent arcs s r ⌝ }
+{
+    s + lowest_bit(arcs >> (s as u32)) as usize
+}
+
+// What is kept of the senders that were passed: the least sum less one, the first that offers it, and whether it was met again.
+struct Kept {
+    most: u32,
+    from: usize,
+    again: bool,
+}
+
+// Passes the senders from the first to before the end. Sums are compared less one.
+fn pass_senders(
+    arcs: u32,
+    costs: &[u32],
+    labels: &[u32],
+    lists: &[u32],
+    receiver: u32,
+    first: usize,
+    end: usize,
+    kept: Kept,
+) -> Kept
     requires { ⌜ length (now costs) ≤ 32 ⌝ }
     requires { ⌜ length (now labels) ≡ length (now costs) ⌝ }
     requires { ⌜ length (now lists) ≡ length (now costs) ⌝ }
-    requires { ⌜ receiver < 32 ⌝ }
-    ensures { λ r. ⌜ choiceMeans r ≡ chosen (choice (length (now (costs .entry))) (costsOf arcs (now (costs .entry))) (reports arcs (now (labels .entry)) (now (lists .entry))) receiver) ⌝ }
+    requires { ⌜ first ≤ end ⌝ }
+    requires { ⌜ end ≤ length (now costs) ⌝ }
+    requires { ⌜ Passed arcs (now costs) (now labels) (now lists) receiver first (kept .most) (kept .from) (kept .again) ⌝ }
+    ensures { λ r. ⌜ Passed arcs (now (costs .entry)) (now (labels .entry)) (now (lists .entry)) receiver end (r .most) (r .from) (r .again) ⌝ }
 {
-    let n = costs.len();
-    let mut most = network::MAX_LABEL;
-    let mut from = 0usize;
-    let mut again = false;
-    for s in 0..n {
+    let mut most = kept.most;
+    let mut from = kept.from;
+    let mut again = kept.again;
+    for s in first..end {
         again = or(again, total(labels[s], lists[s], costs[s]) == wide(most));
         let Offer::Sum(sum) = offer_most(
             arcs,
@@ -141,10 +173,72 @@ fn least_offer(arcs: u32, costs: &[u32], labels: &[u32], lists: &[u32], receiver
         from = s;
         again = false;
     }
+    Kept { most, from, again }
+}
+
+// Passes all senders: from arc to arc where less than half of them have one, and else one by one, which takes less time for each.
+fn pass_all(arcs: u32, costs: &[u32], labels: &[u32], lists: &[u32], receiver: u32) -> Kept
+    requires { ⌜ length (now costs) ≤ 32 ⌝ }
+    requires { ⌜ length (now labels) ≡ length (now costs) ⌝ }
+    requires { ⌜ length (now lists) ≡ length (now costs) ⌝ }
+    ensures { λ r. ⌜ Passed arcs (now (costs .entry)) (now (labels .entry)) (now (lists .entry)) receiver (length (now (costs .entry))) (r .most) (r .from) (r .again) ⌝ }
+{
+    let n = costs.len();
+    let mut most = network::MAX_LABEL;
+    let mut from = 0usize;
+    let mut again = false;
+    if n / 2 <= ancestors::count_nodes(arcs) as usize {
+        return pass_senders(
+            arcs,
+            costs,
+            labels,
+            lists,
+            receiver,
+            0,
+            n,
+            Kept { most, from, again },
+        );
+    }
+    let mut s = 0usize;
+    while s < n {
+        let next = next_arc(arcs, s);
+        if n <= next {
+            s = n;
+            continue;
+        }
+        let kept = pass_senders(
+            arcs,
+            costs,
+            labels,
+            lists,
+            receiver,
+            next,
+            next + 1,
+            Kept { most, from, again },
+        );
+        most = kept.most;
+        from = kept.from;
+        again = kept.again;
+        s = next + 1;
+    }
+    Kept { most, from, again }
+}
+
+// The least offer of the senders, of equals that of fewest ones, and then the lowest sender's. Ones are counted only if the least sum is met again.
+fn least_offer(arcs: u32, costs: &[u32], labels: &[u32], lists: &[u32], receiver: u32) -> Choice
+    requires { ⌜ length (now costs) ≤ 32 ⌝ }
+    requires { ⌜ length (now labels) ≡ length (now costs) ⌝ }
+    requires { ⌜ length (now lists) ≡ length (now costs) ⌝ }
+    requires { ⌜ receiver < 32 ⌝ }
+    ensures { λ r. ⌜ choiceMeans r ≡ chosen (choice (length (now (costs .entry))) (costsOf arcs (now (costs .entry))) (reports arcs (now (labels .entry)) (now (lists .entry))) receiver) ⌝ }
+{
+    let kept = pass_all(arcs, costs, labels, lists, receiver);
+    let most = kept.most;
+    let mut from = kept.from;
     if network::MAX_LABEL <= most {
         return Choice::NoRoute;
     }
-    if again {
+    if kept.again {
         from = fewest_ones(arcs, costs, labels, lists, receiver, most + 1, from);
     }
     Choice::Route {

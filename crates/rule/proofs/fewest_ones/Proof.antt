@@ -11,7 +11,8 @@ use denote.Ref.{now}
 use Rattle.network.specs.Round.{sender, winner}
 use Rattle.network.specs.Words.{offersOf, onesOf}
 use Rattle.network.proofs.Offers.{won-below}
-use Rattle.rule.proofs.Least.{below-arc, won-arc, ones-of-nodes, winnerOf, winner-is, least-fits, fewest-first, fewest-pass, fewest-take, fewest-leave}
+use Rattle.rule.specs.Passed.{winnerOf}
+use Rattle.rule.proofs.Least.{below-arc, won-arc, ones-of-nodes, winner-is, least-fits, fewest-first, fewest-pass, fewest-take, fewest-leave}
 use Rattle.rule.proofs.fewest_ones.Statement.{statement}
 use Rattle.rule.proofs.fewest_ones.Tie as tie
 
