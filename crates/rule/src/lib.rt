@@ -157,7 +157,11 @@ fn pass_senders(
     let mut from = kept.from;
     let mut again = kept.again;
     for s in first..end {
-        again = or(again, total(labels[s], lists[s], costs[s]) == wide(most));
+        let less = total(labels[s], lists[s], costs[s]);
+        if wide(most) <= less {
+            again = or(again, less == wide(most));
+            continue;
+        }
         let Offer::Sum(sum) = offer_most(
             arcs,
             s as u32,

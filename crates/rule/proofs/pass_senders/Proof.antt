@@ -6,9 +6,11 @@ use Prim.Native.Nat.{_+_, _-_, _≤_}
 use mathlib.Core.Path.{_≡_, sym, ap, subst, _∙_}
 use borrow.Author.Tests.{eqb-false}
 use denote.Ref.{now}
+use lib.ListN.{getD}
+use Rattle.network.specs.Words.{costOf}
 use Rattle.ancestors.proofs.Cases.{or-neither}
 use Rattle.rule.specs.Passed.{winnerOf, Passed}
-use Rattle.rule.proofs.Least.{below-positive, first-pass, first-take, alone-pass}
+use Rattle.rule.proofs.Least.{below-positive, first-pass, first-take, alone-pass, offer-over}
 use Rattle.rule.proofs.pass_senders.Statement.{statement}
 use Rattle.rule.proofs.pass_senders.Tie as tie
 
@@ -21,8 +23,36 @@ abbrev μ-loop : tie.MeasureT-loop
 loop-holds : tie.Need-loop-holds Inv-loop μ-loop
 loop-holds c = (c .before .before .before .pre .1 .1 .1 .1 .1, c .before .before .before .pre .1 .1 .1 .0)
 
+-- an empty report, or a sum that is not below the least
 loop-again : tie.Need-loop-again Inv-loop μ-loop
 loop-again c =
+    let l = c .before .before .before .before .before .before .before .before .before .loop in
+    let a = c .before .before .before .before .before .before .before .before .before .before .before .before .before .args in
+    let xs = now (a .costs) in
+    let ds = now (a .labels) in
+    let ls = now (a .lists) in
+    let total = c .before .before .before .before .total in
+    let bound = c .before .before .before .wide in
+    let o =
+    sym
+    (offer-over (a .arcs) (l .s) (a .receiver) (costOf (getD xs (l .s) 0)) (getD ds (l .s) 0) (getD ls (l .s) 0) (l .most + 1)
+    (λ n. omega (arith, total .ensures .some n, bound .ensures, c .before .before .if1 .taken))) in
+    let known = l .inv .0 in (
+      record {
+        least = first-pass (a .arcs) xs ds ls (a .receiver) (l .s) (l .most + 1) (l .from) (known .least) o;
+        fits = known .fits;
+        only = λ h.
+            let k = or-neither (l .again) _ (sym (c .or .ensures) ∙ h) in
+            let same = c .before .wide2 in
+            alone-pass (a .arcs) xs ds ls (a .receiver) (l .s) (l .most + 1) (l .from) (known .only (k .0)) o
+            (λ n q. eqb-false (total .result) (same .result) (k .1) (omega (arith, q, total .ensures .some n, same .ensures)));
+      },
+      omega arith,
+    )
+
+-- a sum below the least that is not offered
+loop-again-2 : tie.Need-loop-again-2 Inv-loop μ-loop
+loop-again-2 c =
     let l = c .before .before .before .before .before .before .before .before .before .before .before .before .before .loop in
     let a = c .before .before .before .before .before .before .before .before .before .before .before .before .before .before .before .before .before .args in
     let xs = now (a .costs) in
@@ -36,9 +66,8 @@ loop-again c =
         least = first-pass (a .arcs) xs ds ls (a .receiver) (l .s) (l .most + 1) (l .from) (known .least) o;
         fits = known .fits;
         only = λ h.
-            let k = or-neither (l .again) _ (sym (c .before .before .before .before .before .before .or .ensures) ∙ h) in
-            alone-pass (a .arcs) xs ds ls (a .receiver) (l .s) (l .most + 1) (l .from) (known .only (k .0)) o
-            (λ n q. eqb-false (total .result) (bound .result) (k .1) (omega (arith, q, total .ensures .some n, bound .ensures)));
+            alone-pass (a .arcs) xs ds ls (a .receiver) (l .s) (l .most + 1) (l .from) (known .only h) o
+            (λ n q. omega (arith, q, total .ensures .some n, bound .ensures, c .before .before .before .before .before .before .if1 .left));
       },
       omega arith,
     )
@@ -49,8 +78,8 @@ sub-most c =
     let o = sym (c .before .before .before .offer-most .ensures) ∙ c .before .sum .given .1 in
     omega (arith, below-positive (a .arcs) (now (a .costs)) (now (a .labels)) (now (a .lists)) (a .receiver) _ _ _ o)
 
-loop-again-2 : tie.Need-loop-again-2 Inv-loop μ-loop
-loop-again-2 c =
+loop-again-3 : tie.Need-loop-again-3 Inv-loop μ-loop
+loop-again-3 c =
     let l = c .before .before .before .before .before .before .before .before .before .before .before .before .before .before .loop in
     let a = c .before .before .before .before .before .before .before .before .before .before .before .before .before .before .before .before .before .before .args in
     let xs = now (a .costs) in
@@ -90,6 +119,10 @@ pass-senders-spec =
     (λ c κs. search needs)
     (λ c κs. search needs)
     (λ c κs. search needs)
+    (λ c κs. search needs)
+    (λ c. omega arith)
+    (λ c. omega arith)
+    loop-again
     (λ c. omega arith)
     (λ c. omega arith)
     (λ c. omega arith)
@@ -102,9 +135,9 @@ pass-senders-spec =
     (λ c. search needs)
     (λ c. omega arith)
     (λ c. omega arith)
-    loop-again
+    loop-again-2
     sub-most
     (λ c. omega arith)
     (λ c. omega arith)
-    loop-again-2
+    loop-again-3
     returns)
