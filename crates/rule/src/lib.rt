@@ -191,7 +191,7 @@ fn pass_all(arcs: u32, costs: &[u32], labels: &[u32], lists: &[u32], receiver: u
     let mut most = network::MAX_LABEL;
     let mut from = 0usize;
     let mut again = false;
-    if n / 2 <= ancestors::count_nodes(arcs) as usize {
+    if arcs & (arcs >> 1) & (arcs >> 2) != 0 {
         return pass_senders(
             arcs,
             costs,

@@ -20,7 +20,7 @@ abbrev μ-loop : tie.MeasureT-loop
 -- one by one
 pass-senders-requires : tie.Need-pass-senders-requires Inv-loop μ-loop
 pass-senders-requires c κs =
-    let b = c .before .before .before .before .before in
+    let b = c .before .before .before .before in
     let a = b .args in
     let p = b .pre in
     (p .0, (p .1 .0, (p .1 .1, (omega arith, (omega arith, first-known (a .arcs) (now (a .costs)) (now (a .labels)) (now (a .lists)) (a .receiver))))))
@@ -31,14 +31,14 @@ returns c = c .pass-senders .ensures
 -- from arc to arc
 loop-holds : tie.Need-loop-holds Inv-loop μ-loop
 loop-holds c =
-    let a = c .before .before .before .before .before .args in
+    let a = c .before .before .before .before .args in
     (first-known (a .arcs) (now (a .costs)) (now (a .labels)) (now (a .lists)) (a .receiver), omega arith)
 
 -- no sender is left that has an arc
 loop-again : tie.Need-loop-again Inv-loop μ-loop
 loop-again c =
     let l = c .before .before .before .loop in
-    let a = c .before .before .before .before .before .before .before .before .before .args in (
+    let a = c .before .before .before .before .before .before .before .before .args in (
       absent-pass (a .arcs) (now (a .costs)) (now (a .labels)) (now (a .lists)) (a .receiver) (l .s) (length (now (a .costs))) (l .most) (l .from) (l .again) (omega arith)
           (λ i from below. c .before .next-arc .ensures .1 i from (omega arith)) (l .inv .0),
       omega arith,
@@ -47,7 +47,7 @@ loop-again c =
 pass-senders-requires-2 : tie.Need-pass-senders-requires-2 Inv-loop μ-loop
 pass-senders-requires-2 c κs =
     let l = c .before .before .before .loop in
-    let b = c .before .before .before .before .before .before .before .before .before in
+    let b = c .before .before .before .before .before .before .before .before in
     let a = b .args in
     let p = b .pre in
     let next = c .before .next-arc in
@@ -62,7 +62,7 @@ loop-again-2 c = (c .pass-senders2 .ensures, omega arith)
 returns-2 : tie.Need-returns-2 Inv-loop μ-loop
 returns-2 c =
     let l = c .before .loop in
-    let a = c .before .before .before .before .before .before .before .args in
+    let a = c .before .before .before .before .before .before .args in
     subst (λ k. Passed (a .arcs) (now (a .costs)) (now (a .labels)) (now (a .lists)) (a .receiver) k (l .most) (l .from) (l .again)) (omega arith) (l .inv .0)
 
 pub pass-all-spec : {M : Type 1} → statement M
@@ -71,8 +71,6 @@ pass-all-spec =
     (tie.spec
     Inv-loop
     μ-loop
-    (λ c κs. search needs)
-    (λ c. omega arith)
     pass-senders-requires
     returns
     loop-holds
