@@ -157,9 +157,9 @@ fn pass_senders(
     let mut from = kept.from;
     let mut again = kept.again;
     for s in first..end {
-        let less = total(labels[s], lists[s], costs[s]);
-        if wide(most) <= less {
-            again = or(again, less == wide(most));
+        let held = total(labels[s], lists[s], costs[s]);
+        if wide(most) <= held {
+            again = or(again, held == wide(most));
             continue;
         }
         let Offer::Sum(sum) = offer_most(
@@ -180,7 +180,7 @@ fn pass_senders(
     Kept { most, from, again }
 }
 
-// Passes all senders: from arc to arc where less than half of them have one, and else one by one, which takes less time for each.
+// Passes all senders: from arc to arc where no two beside each other have one, and else one by one, which takes less time for each.
 fn pass_all(arcs: u32, costs: &[u32], labels: &[u32], lists: &[u32], receiver: u32) -> Kept
     requires { ⌜ length (now costs) ≤ 32 ⌝ }
     requires { ⌜ length (now labels) ≡ length (now costs) ⌝ }
@@ -191,7 +191,7 @@ fn pass_all(arcs: u32, costs: &[u32], labels: &[u32], lists: &[u32], receiver: u
     let mut most = network::MAX_LABEL;
     let mut from = 0usize;
     let mut again = false;
-    if arcs & (arcs >> 1) & (arcs >> 2) != 0 {
+    if arcs & (arcs >> 1) != 0 {
         return pass_senders(
             arcs,
             costs,
