@@ -4,7 +4,7 @@ use mathlib.Core.Path.{_≡_, refl, sym, ap, ap₂, _∙_}
 use mathlib.Core.Bool.{Bool, true, false, not, _&&_}
 use mathlib.Core.Logic.{_⊎_, inl, inr}
 use mathlib.Core.List.{List}
-use Prim.Native.Nat.{ℕ, _+_, _<_, _≤_}
+use Prim.Native.Nat.{ℕ, _<_, _≤_}
 use native.Mathlib.Omega.{arith}
 use lib.Dec.{eqb}
 use lib.ListN.{length, getD}
@@ -13,11 +13,12 @@ use Rattle.ancestors.specs.Ancestors.{has}
 use Rattle.ancestors.proofs.Cases.{bool-cases, never}
 use Rattle.network.specs.Faults.{pairFault}
 use Rattle.network.specs.Round.{marked, strayMark, idleMark, everyArc}
+use Rattle.network.specs.Network.{Net}
 use Rattle.network.specs.Arcs.{arcsTo}
 use Rattle.network.proofs.Arcs.{arcs-exact, stray-bit, some-cost}
-use Rattle.network.proofs.Marking.{some-ext, marked-fails}
-use Rattle.memory.specs.Layout.{look, view, arcBits}
-use Rattle.memory.proofs.Store.{present-in, arc-is, arc-beyond}
+use Rattle.network.proofs.Marking.{some-ext, some-none, marked-fails}
+use Rattle.memory.specs.Layout.{look, view}
+use Rattle.memory.proofs.Store.{present-out, arc-is, arc-beyond}
 use Rattle.routing.specs.Inner.{Given, RowWord, given, outside, strayRows, idleRows}
 
 -- ---- refusals
@@ -30,36 +31,35 @@ pub stray-agrees : (n : ℕ) (ms : List ℕ) → strayRows n ms 32 ≡ strayMark
 unfolding strayRows outside strayMark
 stray-agrees n ms = some-ext _ _ 32 (λ r k. some-ext _ _ 32 (λ s h. ap₂ _&&_ (mark-is ms s r h k) (stray-bit n r s h)))
 
+pub idle-agrees : (x : Net) (ms : List ℕ) → idleRows x ms 32 ≡ idleMark (x .cost) (marked ms)
+unfolding idleRows outside idleMark everyArc
+idle-agrees x ms =
+    some-ext _ _ 32 (λ r k. some-ext _ _ 32 (λ s h. ap₂ _&&_ (mark-is ms s r h k) (ap not (arcs-exact x r s h) ∙ some-cost (x .cost s r))))
+
 -- ---- marks on arcs
 
-module _ (xs ms : List ℕ) (n : ℕ) (is : n ≡ view xs .nodes) where
-  module _ (near : strayMark (view xs .nodes) (marked ms) ≡ false) where
-    -- a mark in range lies on an arc exactly if its bit is in the word of arcs
-    arc-bit : (s r : ℕ) → marked ms s r ≡ true → not (has (look xs (arcBits + r)) s) ≡ eqb (view xs .cost s r) 0
-    unfolding strayMark
-    arc-bit s r m =
-        ap not (sym (present-in (view xs .nodes) (look xs) s r (marked-fails ms (pairFault (view xs .nodes)) near s r m)) ∙ arc-is xs s r)
-        ∙ some-cost (view xs .cost s r)
+module _ (xs ms : List ℕ) (e : idleMark (view xs .cost) (marked ms) ≡ false) where
+  -- no mark is without an arc
+  on-arc : (s r : ℕ) → marked ms s r ≡ true → everyArc (view xs) s r ≡ true
+  unfolding idleMark everyArc
+  on-arc s r m =
+      let k = eqb-false (view xs .cost s r) 0 (marked-fails ms (λ s r. eqb (view xs .cost s r) 0) e s r m) in
+      lt-ltb 0 (view xs .cost s r) (omega (arith, k))
 
-    pub idle-agrees : idleRows xs ms 32 ≡ idleMark (view xs .cost) (marked ms)
-    unfolding idleRows outside idleMark
-    idle-agrees = some-ext _ _ 32 (λ r k. some-ext _ _ 32 (λ s h. ap (λ b. b && not (has (look xs (arcBits + r)) s)) (mark-is ms s r h k) ∙ go s r (bool-cases (marked ms s r))))
-      where
-        go : (s r : ℕ) → (marked ms s r ≡ true) ⊎ (marked ms s r ≡ false)
-            → (marked ms s r && not (has (look xs (arcBits + r)) s)) ≡ (marked ms s r && eqb (view xs .cost s r) 0)
-        go s r (inl m) = ap (_&&_ (marked ms s r)) (arc-bit s r m)
-        go s r (inr m) = rw m
+  -- and so none is out of range
+  pub none-stray : strayMark (view xs .nodes) (marked ms) ≡ false
+  unfolding strayMark everyArc
+  none-stray = some-none _ 32 (λ r k. some-none _ 32 (λ s h. go s r (bool-cases (marked ms s r)) (bool-cases (pairFault (view xs .nodes) s r))))
+    where
+      go : (s r : ℕ) → (marked ms s r ≡ true) ⊎ (marked ms s r ≡ false) → (pairFault (view xs .nodes) s r ≡ true) ⊎ (pairFault (view xs .nodes) s r ≡ false)
+          → (marked ms s r && pairFault (view xs .nodes) s r) ≡ false
+      go s r (inr m) f = rw m
+      go s r (inl m) (inr f) = rw (m, f)
+      go s r (inl m) (inl f) = never _ (on-arc s r m) (sym (arc-is xs s r) ∙ present-out (view xs .nodes) (look xs) s r f)
 
-  -- no mark without an arc
-  pub marks-given : length ms ≡ 32 → idleMark (view xs .cost) (marked ms) ≡ false → Given xs false ms
-  unfolding idleMark everyArc given
-  marks-given long e =
-      record {
-        arc = λ s r m.
-            let k = eqb-false (view xs .cost s r) 0 (marked-fails ms (λ s r. eqb (view xs .cost s r) 0) e s r m) in
-            lt-ltb 0 (view xs .cost s r) (omega (arith, k));
-        long = λ _. long;
-      }
+  pub marks-given : length ms ≡ 32 → Given xs false ms
+  unfolding given
+  marks-given long = record { arc = on-arc; long = λ _. long }
 
 pub arcs-given : (xs ms : List ℕ) → Given xs true ms
 unfolding given

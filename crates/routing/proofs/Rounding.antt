@@ -13,7 +13,7 @@ use Rattle.memory.specs.Layout.{view}
 use Rattle.memory.specs.Answers.{Leaves}
 use Rattle.memory.proofs.Laws.{leaves-refused, leaves-accepted}
 use Rattle.routing.specs.Inner.{Hears, Given, given, strayRows, idleRows}
-use Rattle.routing.proofs.Marks.{stray-agrees, idle-agrees, marks-given}
+use Rattle.routing.proofs.Marks.{stray-agrees, idle-agrees, none-stray, marks-given}
 
 -- hearing, and then new rows
 pub advanced : (xs ps ys zs ms : List ℕ) (full : Bool) → Hears ps (view xs) → Hears ys (hear (given (view ps) full ms) (view ps))
@@ -34,24 +34,20 @@ module _ (xs ms : List ℕ) where
     unfolding roundOf roundNumber
     round-stray h = leaves-refused 3 _ _ xs (rw (eq-eqb (length ms) 32 e, sym stray ∙ h)) (λ z. omega arith)
 
-    module _ (h : strayRows n ms 32 ≡ false) where
-      near : strayMark (view xs .nodes) (marked ms) ≡ false
-      near = sym stray ∙ h
+    pub round-idle : strayRows n ms 32 ≡ false → idleRows (view xs) ms 32 ≡ true → Leaves (roundOf (view xs) ms) 7 xs xs
+    unfolding roundOf roundNumber
+    round-idle h k = leaves-refused 7 _ _ xs (rw (eq-eqb (length ms) 32 e, sym stray ∙ h, sym (idle-agrees (view xs) ms) ∙ k)) (λ z. omega arith)
 
-      idle : idleRows xs ms 32 ≡ idleMark (view xs .cost) (marked ms)
-      idle = idle-agrees xs ms n is near
+  module _ (e : length ms ≡ 32) (k : idleRows (view xs) ms 32 ≡ false) where
+    none-idle : idleMark (view xs .cost) (marked ms) ≡ false
+    none-idle = sym (idle-agrees (view xs) ms) ∙ k
 
-      pub round-idle : idleRows xs ms 32 ≡ true → Leaves (roundOf (view xs) ms) 7 xs xs
-      unfolding roundOf roundNumber
-      round-idle k = leaves-refused 7 _ _ xs (rw (eq-eqb (length ms) 32 e, near, sym idle ∙ k)) (λ z. omega arith)
+    pub round-given : Given xs false ms
+    round-given = marks-given xs ms none-idle e
 
-      module _ (k : idleRows xs ms 32 ≡ false) where
-        pub round-given : Given xs false ms
-        round-given = marks-given xs ms n is e (sym idle ∙ k)
-
-        pub round-done : (zs : List ℕ) → view zs ≡ round (given (view xs) false ms) (view xs) → Leaves (roundOf (view xs) ms) 0 xs zs
-        unfolding roundOf roundNumber given
-        round-done zs v = leaves-accepted _ _ xs zs (rw (eq-eqb (length ms) 32 e, near, sym idle ∙ k)) v
+    pub round-done : (zs : List ℕ) → view zs ≡ round (given (view xs) false ms) (view xs) → Leaves (roundOf (view xs) ms) 0 xs zs
+    unfolding roundOf roundNumber given
+    round-done zs v = leaves-accepted _ _ xs zs (rw (eq-eqb (length ms) 32 e, none-stray xs ms none-idle, none-idle)) v
 
 -- a round with every arc heard
 pub full-round-done : (xs zs ms : List ℕ) → view zs ≡ round (given (view xs) true ms) (view xs) → Leaves (fullRoundOf (view xs)) 0 xs zs

@@ -9,8 +9,8 @@ use lib.ListN.{length, getD}
 use Rattle.ancestors.specs.Ancestors.{has, own}
 use Rattle.network.specs.Network.{Net}
 use Rattle.network.specs.Round.{Marks, marked, some, everyArc}
-use Rattle.network.specs.Arcs.{senders}
-use Rattle.memory.specs.Layout.{look, view, rowLabels, rowLists, arcBits}
+use Rattle.network.specs.Arcs.{arcsTo, senders}
+use Rattle.memory.specs.Layout.{look, view, rowLabels, rowLists}
 
 -- n is the number of nodes
 pub record Nodes (xs : List ℕ) (n : ℕ) : Type 0 where
@@ -65,5 +65,5 @@ unfoldable pub strayRows : ℕ → List ℕ → ℕ → Bool
 strayRows n ms k = some (λ r. outside (getD ms r 0) (senders n r)) k
 
 -- a mark of a receiver below k is not in the word of its arcs
-unfoldable pub idleRows : List ℕ → List ℕ → ℕ → Bool
-idleRows xs ms k = some (λ r. outside (getD ms r 0) (look xs (arcBits + r))) k
+unfoldable pub idleRows : Net → List ℕ → ℕ → Bool
+idleRows x ms k = some (λ r. outside (getD ms r 0) (arcsTo x r)) k

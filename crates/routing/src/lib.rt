@@ -207,15 +207,17 @@ fn stray_marks(n: u32, marks: &[u32]) -> bool
     found
 }
 
-// Whether a mark has no arc.
-fn idle_marks(net: &[u32], marks: &[u32]) -> bool
+// Whether a mark has no arc. One that is out of range has none.
+fn idle_marks(net: &[u32], n: u32, marks: &[u32]) -> bool
     requires { ⌜ length (now net) ≡ wordCount ⌝ }
     requires { ⌜ length (now marks) ≡ 32 ⌝ }
-    ensures { λ b. ⌜ b ≡ idleRows (now (net .entry)) (now (marks .entry)) 32 ⌝ }
+    requires { ⌜ n ≡ view (now net) .nodes ⌝ }
+    ensures { λ b. ⌜ b ≡ idleRows (view (now (net .entry))) (now (marks .entry)) 32 ⌝ }
 {
     let mut found = false;
-    for r in 0usize..32 {
-        found = rule::or(found, outside(marks[r], net[ARCS + r]));
+    for r in 0u32..32 {
+        let arcs = net[ARCS + r as usize] & faults::senders(n, r);
+        found = rule::or(found, outside(marks[r as usize], arcs));
     }
     found
 }
@@ -231,10 +233,10 @@ pub fn round(net: &mut Network, marks: &[u32]) -> u8
         return 1;
     }
     let n = memory::nodes(net);
-    if stray_marks(n, marks) {
-        return 3;
-    }
-    if idle_marks(net, marks) {
+    if idle_marks(net, n, marks) {
+        if stray_marks(n, marks) {
+            return 3;
+        }
         return 7;
     }
     advance(net, n as usize, false, marks);
