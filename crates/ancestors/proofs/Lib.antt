@@ -3,4 +3,5 @@ pub mod Cases
 pub mod Counting
 pub mod Laws
 pub mod Sets
+pub mod Walk
 mod Words

@@ -1,11 +1,12 @@
 // Ancestor lists and other sets of nodes as 32-bit words: whether a node is listed, a list with a node more or less, its nodes below a number, whether
-// it has a node that another list has not, how many nodes it has, and its hops.
+// it has a node that another list has not, its lowest node, how many nodes it has, and its hops.
 //
 // No function has a precondition: a node above 31 is in no list and joins none.
 ghost use mathlib.Core.Path.{_≡_};
 ghost use mathlib.Core.Bool.{cond, not};
 ghost use Prim.Native.Nat.{_%_, _^_};
 ghost use lib.Dec.{ltb};
+ghost use lib.Count.{trailingZeros};
 ghost use Rattle.ancestors.specs.Ancestors.{has, put, cut, inside, hops, count};
 
 // Whether the node is in the list.
@@ -53,6 +54,13 @@ pub fn outside(list: u32, other: u32) -> bool
     ensures { λ r. ⌜ r ≡ not (inside list other) ⌝ }
 {
     list & other != list
+}
+
+// The lowest node of the list; 32 for the empty list.
+pub fn lowest(list: u32) -> u32
+    ensures { λ r. ⌜ r ≡ trailingZeros 32 list ⌝ }
+{
+    u32::trailing_zeros(list)
 }
 
 // The number of nodes in the list.

@@ -219,6 +219,17 @@ row-next xs ys zs r w k j t e q h g =
     hears-next (rowMarks r w k) (oneMark k r t) (rowMarks r w j) (view xs) ys zs (h .net) g
     (λ a b. ap (λ u. oneMark k r u a b || rowMarks r w k a b) e ∙ row-step r w k a b ∙ ap (λ i. rowMarks r w i a b) (sym q))
 
+-- senders without a mark
+pub row-gap : (r w j k : ℕ) → j ≤ k → ((i : ℕ) → j ≤ i → i < k → has w i ≡ false) → (a b : ℕ) → rowMarks r w j a b ≡ rowMarks r w k a b
+unfolding rowMarks
+row-gap r w j k h none-has a b = ap (_&&_ (eqb b r)) (go (le-or-lt j a) (le-or-lt k a))
+  where
+    go : (j ≤ a) ⊎ (a < j) → (k ≤ a) ⊎ (a < k) → (ltb a j && has w a) ≡ (ltb a k && has w a)
+    go (inl low) (inl high) = rw (le-ltb a j low, le-ltb a k high)
+    go (inl low) (inr high) = rw (le-ltb a j low, lt-ltb a k high) (sym (none-has a low high))
+    go (inr low) (inl high) = absurd (omega arith)
+    go (inr low) (inr high) = rw (lt-ltb a j low, lt-ltb a k high)
+
 -- no mark is on a sender that is no node
 pub row-rest : (xs : List ℕ) (r w n k : ℕ) → n ≡ view xs .nodes → n ≤ k → k ≤ 32 → OnArcs xs r w
     → ((s r : ℕ) → (view xs .nodes ≤ s) ⊎ (view xs .nodes ≤ r) → everyArc (view xs) s r ≡ false) → (a b : ℕ) → rowMarks r w k a b ≡ rowMarks r w 32 a b
@@ -312,7 +323,7 @@ up-all xs full ms g beyond s r = go (bool-cases (given (view xs) full ms s r)) (
 
 -- ---- the origin's words set
 module _ (xs : List ℕ) (size : length xs ≡ wordCount) (y l : ℕ) (e : y ≡ view xs .origin) (h : y < view xs .nodes) where
-  pub primes : l ≡ own y → Hears (set (set (set xs (rowLabels + y) 0) (rowPredecessors + y) 0) (rowLists + y) l) (view xs)
+  pub primes : l ≡ own y → Hears (set (set xs (rowLabels + y) 0) (rowLists + y) l) (view xs)
   primes q =
       record {
         net = same;
@@ -325,29 +336,27 @@ module _ (xs : List ℕ) (size : length xs ≡ wordCount) (y l : ℕ) (e : y ≡
       x₁ : List ℕ
       x₁ = set xs (rowLabels + y) 0
 
-      x₂ : List ℕ
-      x₂ = set x₁ (rowPredecessors + y) 0
-
       zs : List ℕ
-      zs = set x₂ (rowLists + y) l
+      zs = set x₁ (rowLists + y) l
 
       same : view zs ≡ view xs
-      same = store-origin xs size y 0 0 l h e
+      same =
+          ap (λ ws. view (set ws (rowLists + y) l)) (sym (set-getD x₁ (rowPredecessors + y) 0))
+          ∙ store-origin xs size y 0 (look x₁ (rowPredecessors + y)) l h e
 
       o : view zs .origin ≡ view xs .origin
       o = ap (λ (x : Net). x .origin) same
 
-      long : length x₂ ≡ wordCount
-      long = length-set x₁ (rowPredecessors + y) 0 ∙ length-set xs (rowLabels + y) 0 ∙ size
+      long : length x₁ ≡ wordCount
+      long = length-set xs (rowLabels + y) 0 ∙ size
 
       label : look zs (rowLabels + y) ≡ 0
       label =
-          getD-set-other x₂ (rowLists + y) (rowLabels + y) l 0 (λ k. omega arith) ∙ getD-set-other x₁ (rowPredecessors + y) (rowLabels + y)
-          0 0 (λ k. omega arith)
+          getD-set-other x₁ (rowLists + y) (rowLabels + y) l 0 (λ k. omega arith)
           ∙ getD-set-same xs (rowLabels + y) 0 0 (omega (arith, few xs, size))
 
       list : look zs (rowLists + y) ≡ l
-      list = getD-set-same x₂ (rowLists + y) l 0 (omega (arith, few xs, long))
+      list = getD-set-same x₁ (rowLists + y) l 0 (omega (arith, few xs, long))
 
 -- where the origin is no node, nothing is asked of its words
 pub unprimed : (xs : List ℕ) → view xs .nodes ≤ view xs .origin → Hears xs (view xs)

@@ -16,7 +16,7 @@ ghost use mathlib.Core.Path.{_≡_};
 ghost use mathlib.Core.Logic.{_≢_};
 ghost use mathlib.Core.Bool.{cond};
 ghost use Prim.Native.Nat.{_<_};
-ghost use lib.ListN.{length};
+ghost use lib.ListN.{length, set};
 ghost use Rattle.network.specs.Network.{withRow};
 ghost use Rattle.network.specs.Round.{choice, hear, renew, round, roundOf, fullRoundOf};
 ghost use Rattle.network.specs.Words.{chosen, choiceMeans};
@@ -27,6 +27,16 @@ ghost use Rattle.routing.specs.Inner.{Nodes, Primed, Hears, OnArc, OnArc
 
 // ---- hearing
 
+// Stores a word if it is another one: a later read of words side by side waits for the store of one of them.
+fn put_word(net: &mut [u32], at: usize, word: u32)
+    requires { ⌜ at < length (now net) ⌝ }
+    ensures { λ _. ⌜ now (net .exit) ≡ set (now (net .entry)) at word ⌝ }
+{
+    if net[at] != word {
+        net[at] = word;
+    }
+}
+
 // The origin's words become those of its row, which is not read from memory.
 fn prime(net: &mut [u32], n: usize)
     requires { ⌜ length (now net) ≡ wordCount ⌝ }
@@ -36,9 +46,8 @@ fn prime(net: &mut [u32], n: usize)
     let origin = net[ORIGIN];
     let at = origin as usize;
     if at < n {
-        net[ROW_LABELS + at] = 0;
-        net[ROW_PREDECESSORS + at] = 0;
-        net[ROW_LISTS + at] = ancestors::joined(0, origin);
+        put_word(net, ROW_LABELS + at, 0);
+        put_word(net, ROW_LISTS + at, ancestors::joined(0, origin));
     }
 }
 
@@ -62,8 +71,24 @@ fn hear_arc(net: &mut [u32], sender: usize, receiver: usize, told: bool)
     net[HELD_LISTS + at] = either(told, net[ROW_LISTS + sender], net[HELD_LISTS + at]);
 }
 
+// From mark to mark.
+fn hear_few(net: &mut [u32], receiver: usize, word: u32)
+    requires { ⌜ length (now net) ≡ wordCount ⌝ }
+    requires { ⌜ Primed (now net) ⌝ }
+    requires { ⌜ Node (now net) receiver ⌝ }
+    requires { ⌜ OnArcs (now net) receiver word ⌝ }
+    ensures { λ _. ⌜ Hears (now (net .exit)) (hear (rowMarks receiver word 32) (view (now (net .entry)))) ⌝ }
+{
+    let mut left = word;
+    while left != 0 {
+        let s = ancestors::lowest(left);
+        hear_arc(net, s as usize, receiver, true);
+        left = ancestors::left_out(left, s);
+    }
+}
+
 // Four senders at a time: the compiler makes vector instructions of four arcs. The last ones may be no nodes; they are not heard.
-fn hear_row(net: &mut [u32], n: usize, receiver: usize, word: u32)
+fn hear_fours(net: &mut [u32], n: usize, receiver: usize, word: u32)
     requires { ⌜ length (now net) ≡ wordCount ⌝ }
     requires { ⌜ Primed (now net) ⌝ }
     requires { ⌜ Nodes (now net) n ⌝ }
@@ -80,6 +105,22 @@ fn hear_row(net: &mut [u32], n: usize, receiver: usize, word: u32)
         hear_arc(net, s + 3, receiver, ancestors::listed(bits, 3));
         bits = bits >> 4;
         s = s + 4;
+    }
+}
+
+// Goes from mark to mark where no two beside each other are marked, and else through all senders, which takes less time for each.
+fn hear_row(net: &mut [u32], n: usize, receiver: usize, word: u32)
+    requires { ⌜ length (now net) ≡ wordCount ⌝ }
+    requires { ⌜ Primed (now net) ⌝ }
+    requires { ⌜ Nodes (now net) n ⌝ }
+    requires { ⌜ Node (now net) receiver ⌝ }
+    requires { ⌜ OnArcs (now net) receiver word ⌝ }
+    ensures { λ _. ⌜ Hears (now (net .exit)) (hear (rowMarks receiver word 32) (view (now (net .entry)))) ⌝ }
+{
+    if word & (word >> 1) == 0 {
+        hear_few(net, receiver, word);
+    } else {
+        hear_fours(net, n, receiver, word);
     }
 }
 

@@ -22,7 +22,7 @@ use Rattle.network.specs.Words.{reportOf, costOf, reports, costsOf, offersOf, o
 use Rattle.network.proofs.Offers.{nothing-sum, made, Before, Won, no-one, some-one, won, won-once}
 use Rattle.network.specs.declared.Offer.{Offer}
 use Rattle.network.specs.declared.Offer.the-variants.{Nothing, Sum}
-use Rattle.rule.specs.Passed.{winnerOf, Alone, Passed, Absent}
+use Rattle.rule.specs.Passed.{winnerOf, Alone, Passed}
 
 -- ---- an offer below a limit
 
@@ -123,15 +123,6 @@ module _ (arcs : ℕ) (costs labels lists : List ℕ) (y : ℕ) where
       go (inl t) = (t, sum-is y (costOf (getD costs s 0)) (getD labels s 0) (getD lists s 0) v (rw t at o))
       go (inr t) = let m = made y 0 empty v (rw t at o) in let q : empty ≡ told (m .label) (m .list) = m .is in clash cc
 
-  -- its report is not empty
-  over-list : (s v : ℕ) → f s ≡ Sum v → getD lists s 0 ≢ 0
-  unfolding offer reportOf
-  over-list s v o z = nothing-sum (f s) (go (has arcs s)) o
-    where
-      go : (t : Bool) → offer y (cond t (costOf (getD costs s 0)) 0) (cond t (reportOf (getD labels s 0) (getD lists s 0)) empty) ≡ Nothing
-      go true = rw (eq-eqb (getD lists s 0) 0 z)
-      go false = refl
-
   -- the list of a report over an arc
   list-over-arc : (s : ℕ) → has arcs s ≡ true → listOf (reports arcs labels lists s) ≡ getD lists s 0
   list-over-arc s h = rw h (list-of-words (getD labels s 0) (getD lists s 0))
@@ -157,13 +148,13 @@ module _ (arcs : ℕ) (costs labels lists : List ℕ) (y : ℕ) where
       go (some-one below its low) = over-arc p b its .0
 
   -- the senders before k were passed, as the loops keep the least sum so far
-  abbrev Known : ℕ → ℕ → ℕ → Bool → Type 0
+  abbrev Known : ℕ → ℕ → ℕ → ℕ → Type 0
   Known = Passed arcs costs labels lists y
 
   -- before the first of them
-  pub first-known : Known 0 maxLabel 0 false
+  pub first-known : Known 0 maxLabel 0 0
   unfolding winner winnerOf
-  first-known = record { least = refl; fits = omega arith; only = λ e r v after below o. absurd (omega arith) }
+  first-known = record { least = refl; fits = omega arith; near = omega arith; only = λ r v after beyond below o. absurd (omega arith) }
 
   module _ (s b p : ℕ) (e : winner f alike s ≡ winnerOf b p) where
     -- an offer that is not below the least sum is passed
@@ -185,50 +176,55 @@ module _ (arcs : ℕ) (costs labels lists : List ℕ) (y : ℕ) where
         let k = small s v (o .0) in
         (winner-takes f alike s b p e v (o .0) k (λ _. before-lesser v 0 b 0 (o .1)), k)
 
-  -- passed with an empty report or another sum than b, it leaves p alone
-  pub alone-pass : (s b p : ℕ) → Alone arcs costs labels lists y b p s → offerBelow b (f s) ≡ Nothing
-      → (getD lists s 0 ≢ 0 → getD labels s 0 + costOf (getD costs s 0) ≢ b) → Alone arcs costs labels lists y b p (s + 1)
-  alone-pass s b p before h apart r v after below o = go (eq-or-ne r s)
+  -- passed with another sum than b, it leaves p and l alone
+  pub alone-pass : (s b p l : ℕ) → Alone arcs costs labels lists y b p l s → offerBelow b (f s) ≡ Nothing
+      → getD labels s 0 + costOf (getD costs s 0) ≢ b → Alone arcs costs labels lists y b p l (s + 1)
+  alone-pass s b p l before h apart r v after beyond below o = go (eq-or-ne r s)
     where
       last : f s ≡ Sum v → (f s ≡ Nothing) ⊎ ((u : ℕ) × (f s ≡ Sum u) × (b ≤ u)) → b < v
       last q (inl n) = nothing-sum (f s) n q
       last q (inr (u, t, k)) =
           let same : u ≡ v = cc in
           let total = over-arc s v q .1 in
-          omega (arith, apart (over-list s v q))
+          omega (arith, apart)
 
       go : (r ≡ s) ⊎ (r ≢ s) → b < v
       go (inl e) = let q : f s ≡ Sum v = rw e at o in last q (below-nothing b (f s) h)
-      go (inr e) = before r v after (omega (arith, e)) o
+      go (inr e) = before r v after beyond (omega (arith, e)) o
 
   -- a sender without an arc offers nothing
   absent-nothing : (s : ℕ) → has arcs s ≡ false → f s ≡ Nothing
   unfolding offer
   absent-nothing s e = rw e
 
+  -- none of the senders from j on and before k has an arc
+  abbrev pub Absent : ℕ → ℕ → Type 0
+  Absent j k = (i : ℕ) → j ≤ i → i < k → has arcs i ≡ false
+
   -- one such sender is passed, and any number of them
-  absent-one : (s m p : ℕ) (a : Bool) → has arcs s ≡ false → Known s m p a → Known (s + 1) m p a
-  absent-one s m p a e known =
+  absent-one : (s m p l : ℕ) → has arcs s ≡ false → Known s m p l → Known (s + 1) m p l
+  absent-one s m p l e known =
       record {
         least = winner-skips f alike s (m + 1) p (known .least) (absent-nothing s e);
         fits = known .fits;
-        only = λ h r v after below o. go (known .only h) r v after below o (eq-or-ne r s);
+        near = omega (arith, known .near);
+        only = λ r v after beyond below o. go (known .only) r v after beyond below o (eq-or-ne r s);
       }
     where
-      go : Alone arcs costs labels lists y (m + 1) p s → (r v : ℕ) → p < r → r < s + 1 → f r ≡ Sum v → (r ≡ s) ⊎ (r ≢ s) → m + 1 < v
-      go before r v after below o (inl q) = nothing-sum (f s) (absent-nothing s e) (rw q at o)
-      go before r v after below o (inr q) = before r v after (omega (arith, q)) o
+      go : Alone arcs costs labels lists y (m + 1) p l s → (r v : ℕ) → p < r → l < r → r < s + 1 → f r ≡ Sum v → (r ≡ s) ⊎ (r ≢ s) → m + 1 < v
+      go before r v after beyond below o (inl q) = nothing-sum (f s) (absent-nothing s e) (rw q at o)
+      go before r v after beyond below o (inr q) = before r v after beyond (omega (arith, q)) o
 
-  absent-some : (j s m p : ℕ) (a : Bool) → Absent arcs s (s + j) → Known s m p a → Known (s + j) m p a
-  absent-some zero s m p a none-has known = subst (λ k. Known k m p a) (omega arith) known
-  absent-some (suc j) s m p a none-has known =
-      subst (λ k. Known k m p a) (omega arith)
-      (absent-one (s + j) m p a (none-has (s + j) (omega arith) (omega arith)) (absent-some j s m p a (λ i from below. none-has i from (omega arith)) known))
+  absent-some : (j s m p l : ℕ) → Absent s (s + j) → Known s m p l → Known (s + j) m p l
+  absent-some zero s m p l none-has known = subst (λ k. Known k m p l) (omega arith) known
+  absent-some (suc j) s m p l none-has known =
+      subst (λ k. Known k m p l) (omega arith)
+      (absent-one (s + j) m p l (none-has (s + j) (omega arith) (omega arith)) (absent-some j s m p l (λ i from below. none-has i from (omega arith)) known))
 
-  pub absent-pass : (s k m p : ℕ) (a : Bool) → s ≤ k → Absent arcs s k → Known s m p a → Known k m p a
-  absent-pass s k m p a h none-has known =
+  pub absent-pass : (s k m p l : ℕ) → s ≤ k → Absent s k → Known s m p l → Known k m p l
+  absent-pass s k m p l h none-has known =
       let e : s + (k - s) ≡ k = omega arith in
-      subst (λ i. Known i m p a) e (absent-some (k - s) s m p a (subst (λ i. Absent arcs s i) (sym e) none-has) known)
+      subst (λ i. Known i m p l) e (absent-some (k - s) s m p l (subst (λ i. Absent s i) (sym e) none-has) known)
 
   -- after the first loop
   module _ (n b p : ℕ) (e : winner f alike n ≡ sender p b) where
@@ -268,12 +264,12 @@ module _ (arcs : ℕ) (costs labels lists : List ℕ) (y : ℕ) where
         go (some-one below its low) = less (low r v (omega arith) (λ q. omega arith) o)
 
     -- where the least sum is not met again, its sender wins
-    pub alone-wins : Alone arcs costs labels lists y b p n → winner f g n ≡ sender p b
-    alone-wins alone = won-once f g n (winner f g n) (sender p b) (won f g n) (go first-won)
+    pub alone-wins : (l : ℕ) → l ≤ p → Alone arcs costs labels lists y b p l n → winner f g n ≡ sender p b
+    alone-wins l near alone = won-once f g n (winner f g n) (sender p b) (won f g n) (go first-won)
       where
         more : (r v : ℕ) → r < n → r ≢ p → f r ≡ Sum v → (r ≤ p) ⊎ (p < r) → b < v
         more r v h q o (inl k) = more-before r v (omega (arith, q)) o
-        more r v h q o (inr k) = alone r v k h o
+        more r v h q o (inr k) = alone r v k (omega arith) h o
 
         go : Won f alike n (sender p b) → Won f g n (sender p b)
         go (some-one below its low) = some-one below its (λ r v h q o. inl (inl (more r v h q o (le-or-lt r p))))
@@ -309,6 +305,26 @@ module _ (arcs : ℕ) (costs labels lists : List ℕ) (y : ℕ) where
 
       pub fewest-leave : (v : ℕ) → offerBelow (b + 1) (f s) ≡ Sum v → g q ≤ g s → winner f g (s + 1) ≡ winnerOf b q
       fewest-leave v h few = winner-leaves f g s b q w b (same-sum v h) least-fits (before-equal b (g s) b (g q) refl ∙ le-ltb (g s) (g q) few)
+
+    -- where all the offers that follow are greater, the winner stays
+    fewest-one : (s q : ℕ) → winner f g s ≡ winnerOf b q → ((v : ℕ) → f s ≡ Sum v → b < v) → winner f g (s + 1) ≡ winnerOf b q
+    fewest-one s q w more = go (f s) refl
+      where
+        go : (o : Offer) → f s ≡ o → winner f g (s + 1) ≡ winnerOf b q
+        go Nothing o = winner-skips f g s b q w o
+        go (Sum v) o = winner-leaves f g s b q w v o least-fits (before-greater v (g s) b (g q) (more v o))
+
+    fewest-some : (j s q : ℕ) → winner f g s ≡ winnerOf b q → ((r v : ℕ) → s ≤ r → r < s + j → f r ≡ Sum v → b < v) → winner f g (s + j) ≡ winnerOf b q
+    fewest-some zero s q w more = subst (λ k. winner f g k ≡ winnerOf b q) (omega arith) w
+    fewest-some (suc j) s q w more =
+        subst (λ k. winner f g k ≡ winnerOf b q) (omega arith)
+        (fewest-one (s + j) q (fewest-some j s q w (λ r v from below. more r v from (omega arith))) (λ v. more (s + j) v (omega arith) (omega arith)))
+
+    pub fewest-rest : (s q : ℕ) → s ≤ n → winner f g s ≡ winnerOf b q → ((r v : ℕ) → s ≤ r → r < n → f r ≡ Sum v → b < v) → winner f g n ≡ sender q b
+    unfolding winnerOf
+    fewest-rest s q h w more =
+        let e : s + (n - s) ≡ n = omega arith in
+        subst (λ k. winner f g k ≡ winnerOf b q) e (fewest-some (n - s) s q w (λ r v from below. more r v from (omega arith))) ∙ rw (le-leb b maxLabel least-fits)
 
   -- no offer after the first loop, and the row of the winner
   pub choice-none : (b p : ℕ) → winner f alike (length costs) ≡ winnerOf b p → maxLabel < b →
@@ -352,11 +368,12 @@ module _ (arcs s y c d l m : ℕ) where
       go (inl t) = rw t e
       go (inr t) = offer-absent t
 
-  offer-empty : l ≡ 0 → Makes Nothing
+  -- an empty report, or too large a sum
+  pub offer-empty : l ≡ 0 → Makes Nothing
   unfolding offer reportOf offerBelow
   offer-empty e = offer-either (rw (eq-eqb l 0 e))
 
-  offer-large : m ≤ d + c → Makes Nothing
+  pub offer-large : m ≤ d + c → Makes Nothing
   unfolding offer reportOf offerBelow
   offer-large h = go (eq-or-ne l 0)
     where
@@ -367,14 +384,6 @@ module _ (arcs s y c d l m : ℕ) where
       go : (l ≡ 0) ⊎ (l ≢ 0) → Makes Nothing
       go (inl e) = offer-empty e
       go (inr e) = offer-either (rw (ne-eqb l 0 e) (dear (has l y || ltb maxLabel (d + c))))
-
-  -- an empty report, or too large a sum
-  pub offer-over : (l ≢ 0 → m ≤ d + c) → Makes Nothing
-  offer-over h = go (eq-or-ne l 0)
-    where
-      go : (l ≡ 0) ⊎ (l ≢ 0) → Makes Nothing
-      go (inl e) = offer-empty e
-      go (inr e) = offer-large (h e)
 
   module _ (n : l ≢ 0) where
     pub offer-listed : has l y ≡ true → Makes Nothing

@@ -11,8 +11,7 @@ ghost use Rattle.network.specs.Faults.{maxLabel};
 ghost use Rattle.network.specs.Network.{empty};
 ghost use Rattle.network.specs.Round.{offer, sender, winner, choice};
 ghost use Rattle.network.specs.Words.{reportOf, costOf, reports, costsOf, offersOf, onesOf, alike, offerBelow, chosen, chooseOf, choiceMeans};
-ghost use Rattle.rule.specs.Totals.{Totals};
-ghost use Rattle.rule.specs.Passed.{Passed, Absent};
+ghost use Rattle.rule.specs.Passed.{Alone, Passed};
 use network::Choice;
 use network::Offer;
 
@@ -29,16 +28,10 @@ fn wide(x: u32) -> u64
     x as u64
 }
 
-// More than any sum of two words.
-const NO_SUM: u64 = 8589934592;
-
-// Label plus the cost of a word, less one, as costs are stored; more than any such sum where the report is empty, so that one comparison tests both.
-fn total(label: u32, list: u32, cost: u32) -> u64
-    ensures { λ r. ⌜ Totals label list cost r ⌝ }
+// Label plus the cost of a word, less one, as costs are stored.
+fn total(label: u32, cost: u32) -> u64
+    ensures { λ r. ⌜ r + 1 ≡ label + costOf cost ⌝ }
 {
-    if list == 0 {
-        return NO_SUM;
-    }
     wide(label) + wide(cost % 65536)
 }
 
@@ -51,7 +44,7 @@ fn present(arcs: u32, sender: u32) -> bool
 }
 
 // The offer of a sender's report, given as two words, over an arc whose cost is given as a word, if it is at most a bound. The sum is tested first:
-// where it is too large the arc's bit need not be read.
+// where it is too large neither the list nor the arc's bit need be read.
 fn offer_most(
     arcs: u32,
     sender: u32,
@@ -65,8 +58,11 @@ fn offer_most(
     requires { ⌜ most ≤ maxLabel ⌝ }
     ensures { λ r. ⌜ r ≡ offerBelow (most + 1) (offer receiver (cond (has arcs sender) (costOf cost) 0) (cond (has arcs sender) (reportOf label list) empty)) ⌝ }
 {
-    let less = total(label, list, cost);
+    let less = total(label, cost);
     if wide(most) <= less {
+        return Offer::Nothing;
+    }
+    if list == 0 {
         return Offer::Nothing;
     }
     if ancestors::listed(list, receiver) {
@@ -78,7 +74,7 @@ fn offer_most(
     Offer::Nothing
 }
 
-// Of the senders that offer the least sum, the first being given, the one of fewest ones, and then the lowest.
+// Of the senders that offer the least sum, the first being given and one after which there is none, that of fewest ones, and then the lowest.
 fn fewest_ones(
     arcs: u32,
     costs: &[u32],
@@ -87,17 +83,23 @@ fn fewest_ones(
     receiver: u32,
     least: u32,
     first: usize,
+    last: usize,
 ) -> usize
     requires { ⌜ length (now costs) ≤ 32 ⌝ }
     requires { ⌜ length (now labels) ≡ length (now costs) ⌝ }
     requires { ⌜ length (now lists) ≡ length (now costs) ⌝ }
     requires { ⌜ winner (offersOf arcs (now costs) (now labels) (now lists) receiver) alike (length (now costs)) ≡ sender first least ⌝ }
+    requires { ⌜ first < last ⌝ }
+    requires { ⌜ last < length (now costs) ⌝ }
+    requires { ⌜ Alone arcs (now costs) (now labels) (now lists) receiver least first last (length (now costs)) ⌝ }
     ensures { λ r. ⌜ winner (offersOf arcs (now (costs .entry)) (now (labels .entry)) (now (lists .entry)) receiver) (onesOf arcs (now (labels .entry)) (now (lists .entry))) (length (now (costs .entry))) ≡ sender r least ⌝ }
 {
-    let n = costs.len();
     let mut from = first;
     let mut fewest = ancestors::count_nodes(lists[first]);
-    for s in first + 1..n {
+    for s in first + 1..last + 1 {
+        if wide(least) <= total(labels[s], costs[s]) {
+            continue;
+        }
         let list = lists[s];
         let Offer::Sum(_) = offer_most(arcs, s as u32, labels[s], list, costs[s], receiver, least)
         else {
@@ -112,123 +114,128 @@ fn fewest_ones(
     from
 }
 
-// The place of the lowest bit that is 1, and 32 where there is none.
-fn lowest_bit(word: u32) -> u32
-    ensures { λ r. ⌜ (r ≤ 32) × Absent word 0 r ⌝ }
-{
-    u32::trailing_zeros(word)
-}
-
-// The first sender from one on that has an arc, and 32 or more where there is none.
-fn next_arc(arcs: u32, s: usize) -> usize
-    requires { ⌜ s < 32 ⌝ }
-    ensures { λ r. ⌜ (s ≤ r) × Absent arcs s r ⌝ }
-{
-    s + lowest_bit(arcs >> (s as u32)) as usize
-}
-
-// What is kept of the senders that were passed: the least sum less one, the first that offers it, and whether it was met again.
+// What is kept of the senders that were passed: the least sum less one, the first that offers it, and one after which, and after the first, none does.
 struct Kept {
     most: u32,
     from: usize,
-    again: bool,
+    last: usize,
 }
 
-// Passes the senders from the first to before the end. Sums are compared less one.
+// Passes one sender. Sums are compared less one.
+fn pass_sender(
+    arcs: u32,
+    costs: &[u32],
+    labels: &[u32],
+    lists: &[u32],
+    receiver: u32,
+    s: usize,
+    kept: Kept,
+) -> Kept
+    requires { ⌜ length (now costs) ≤ 32 ⌝ }
+    requires { ⌜ length (now labels) ≡ length (now costs) ⌝ }
+    requires { ⌜ length (now lists) ≡ length (now costs) ⌝ }
+    requires { ⌜ s < length (now costs) ⌝ }
+    requires { ⌜ Passed arcs (now costs) (now labels) (now lists) receiver s (kept .most) (kept .from) (kept .last) ⌝ }
+    ensures { λ r. ⌜ Passed arcs (now (costs .entry)) (now (labels .entry)) (now (lists .entry)) receiver (s + 1) (r .most) (r .from) (r .last) ⌝ }
+{
+    let held = total(labels[s], costs[s]);
+    if wide(kept.most) <= held {
+        if held == wide(kept.most) {
+            return Kept {
+                most: kept.most,
+                from: kept.from,
+                last: s,
+            };
+        }
+        return kept;
+    }
+    let Offer::Sum(sum) = offer_most(
+        arcs,
+        s as u32,
+        labels[s],
+        lists[s],
+        costs[s],
+        receiver,
+        kept.most,
+    ) else {
+        return kept;
+    };
+    Kept {
+        most: sum - 1,
+        from: s,
+        last: kept.last,
+    }
+}
+
+// Passes all senders, one by one.
 fn pass_senders(
     arcs: u32,
     costs: &[u32],
     labels: &[u32],
     lists: &[u32],
     receiver: u32,
-    first: usize,
-    end: usize,
-    kept: Kept,
+    none: Kept,
 ) -> Kept
     requires { ⌜ length (now costs) ≤ 32 ⌝ }
     requires { ⌜ length (now labels) ≡ length (now costs) ⌝ }
     requires { ⌜ length (now lists) ≡ length (now costs) ⌝ }
-    requires { ⌜ first ≤ end ⌝ }
-    requires { ⌜ end ≤ length (now costs) ⌝ }
-    requires { ⌜ Passed arcs (now costs) (now labels) (now lists) receiver first (kept .most) (kept .from) (kept .again) ⌝ }
-    ensures { λ r. ⌜ Passed arcs (now (costs .entry)) (now (labels .entry)) (now (lists .entry)) receiver end (r .most) (r .from) (r .again) ⌝ }
+    requires { ⌜ Passed arcs (now costs) (now labels) (now lists) receiver 0 (none .most) (none .from) (none .last) ⌝ }
+    ensures { λ r. ⌜ Passed arcs (now (costs .entry)) (now (labels .entry)) (now (lists .entry)) receiver (length (now (costs .entry))) (r .most) (r .from) (r .last) ⌝ }
 {
-    let mut most = kept.most;
-    let mut from = kept.from;
-    let mut again = kept.again;
-    for s in first..end {
-        let held = total(labels[s], lists[s], costs[s]);
-        if wide(most) <= held {
-            again = or(again, held == wide(most));
-            continue;
-        }
-        let Offer::Sum(sum) = offer_most(
-            arcs,
-            s as u32,
-            labels[s],
-            lists[s],
-            costs[s],
-            receiver,
-            most,
-        ) else {
-            continue;
-        };
-        most = sum - 1;
-        from = s;
-        again = false;
+    let n = costs.len();
+    let mut kept = none;
+    for s in 0..n {
+        kept = pass_sender(arcs, costs, labels, lists, receiver, s, kept);
     }
-    Kept { most, from, again }
+    kept
 }
 
-// Passes all senders: from arc to arc where no two beside each other have one, and else one by one, which takes less time for each.
+// Passes the senders that have an arc.
+fn pass_arcs(
+    arcs: u32,
+    costs: &[u32],
+    labels: &[u32],
+    lists: &[u32],
+    receiver: u32,
+    none: Kept,
+) -> Kept
+    requires { ⌜ length (now costs) ≤ 32 ⌝ }
+    requires { ⌜ length (now labels) ≡ length (now costs) ⌝ }
+    requires { ⌜ length (now lists) ≡ length (now costs) ⌝ }
+    requires { ⌜ Passed arcs (now costs) (now labels) (now lists) receiver 0 (none .most) (none .from) (none .last) ⌝ }
+    ensures { λ r. ⌜ Passed arcs (now (costs .entry)) (now (labels .entry)) (now (lists .entry)) receiver (length (now (costs .entry))) (r .most) (r .from) (r .last) ⌝ }
+{
+    let n = costs.len();
+    let mut kept = none;
+    let mut left = ancestors::below(arcs, n as u32);
+    while left != 0 {
+        let s = ancestors::lowest(left);
+        kept = pass_sender(arcs, costs, labels, lists, receiver, s as usize, kept);
+        left = ancestors::left_out(left, s);
+    }
+    kept
+}
+
+// Goes from arc to arc where no three beside each other are arcs, and else passes all senders, which takes less time for each.
 fn pass_all(arcs: u32, costs: &[u32], labels: &[u32], lists: &[u32], receiver: u32) -> Kept
     requires { ⌜ length (now costs) ≤ 32 ⌝ }
     requires { ⌜ length (now labels) ≡ length (now costs) ⌝ }
     requires { ⌜ length (now lists) ≡ length (now costs) ⌝ }
-    ensures { λ r. ⌜ Passed arcs (now (costs .entry)) (now (labels .entry)) (now (lists .entry)) receiver (length (now (costs .entry))) (r .most) (r .from) (r .again) ⌝ }
+    ensures { λ r. ⌜ Passed arcs (now (costs .entry)) (now (labels .entry)) (now (lists .entry)) receiver (length (now (costs .entry))) (r .most) (r .from) (r .last) ⌝ }
 {
-    let n = costs.len();
-    let mut most = network::MAX_LABEL;
-    let mut from = 0usize;
-    let mut again = false;
-    if arcs & (arcs >> 1) != 0 {
-        return pass_senders(
-            arcs,
-            costs,
-            labels,
-            lists,
-            receiver,
-            0,
-            n,
-            Kept { most, from, again },
-        );
+    let none = Kept {
+        most: network::MAX_LABEL,
+        from: 0,
+        last: 0,
+    };
+    let pairs = arcs & (arcs >> 1);
+    if pairs & (pairs >> 1) != 0 {
+        return pass_senders(arcs, costs, labels, lists, receiver, none);
     }
-    let mut s = 0usize;
-    while s < n {
-        let next = next_arc(arcs, s);
-        if n <= next {
-            s = n;
-            continue;
-        }
-        let kept = pass_senders(
-            arcs,
-            costs,
-            labels,
-            lists,
-            receiver,
-            next,
-            next + 1,
-            Kept { most, from, again },
-        );
-        most = kept.most;
-        from = kept.from;
-        again = kept.again;
-        s = next + 1;
-    }
-    Kept { most, from, again }
+    pass_arcs(arcs, costs, labels, lists, receiver, none)
 }
 
-// The least offer of the senders, of equals that of fewest ones, and then the lowest sender's. Ones are counted only if the least sum is met again.
+// The least offer of the senders, of equals that of fewest ones, and then the lowest sender's. Ones are counted only if the least sum was met again.
 fn least_offer(arcs: u32, costs: &[u32], labels: &[u32], lists: &[u32], receiver: u32) -> Choice
     requires { ⌜ length (now costs) ≤ 32 ⌝ }
     requires { ⌜ length (now labels) ≡ length (now costs) ⌝ }
@@ -242,8 +249,17 @@ fn least_offer(arcs: u32, costs: &[u32], labels: &[u32], lists: &[u32], receiver
     if network::MAX_LABEL <= most {
         return Choice::NoRoute;
     }
-    if kept.again {
-        from = fewest_ones(arcs, costs, labels, lists, receiver, most + 1, from);
+    if from < kept.last {
+        from = fewest_ones(
+            arcs,
+            costs,
+            labels,
+            lists,
+            receiver,
+            most + 1,
+            from,
+            kept.last,
+        );
     }
     Choice::Route {
         label: most + 1,

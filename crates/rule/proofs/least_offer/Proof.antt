@@ -38,39 +38,40 @@ first-found c =
 
 fewest-ones-requires : tie.Need-fewest-ones-requires
 fewest-ones-requires c κs =
-    let p = c .before .before .before .before .before .before .pre in
-    (p .0, (p .1 .0, (p .1 .1 .0, first-found (c .before))))
+    let k = c .before .before .before .pass-all .ensures in
+    let p = c .before .before .before .before .before .before .before .pre in
+    (p .0, (p .1 .0, (p .1 .1 .0, (first-found (c .before .before), (omega arith, (omega (arith, k .near), k .only))))))
 
 -- the winner, whether or not the least sum was met again
 found : (c : tie.Joined2) →
-    let a = c .before .before .before .before .before .before .args in
+    let a = c .before .before .before .before .before .before .before .args in
     winner (offersOf (a .arcs) (now (a .costs)) (now (a .labels)) (now (a .lists)) (a .receiver)) (onesOf (a .arcs) (now (a .labels)) (now (a .lists))) (length (now (a .costs))) ≡ sender
-    (c .if2 .from) (c .before .before .pass-all .result .most + 1)
+    (c .if2 .from) (c .before .before .before .pass-all .result .most + 1)
 found c =
-    let k = c .before .before .pass-all in
-    let a = c .before .before .before .before .before .before .args in
+    let k = c .before .before .before .pass-all in
+    let a = c .before .before .before .before .before .before .before .args in
     ⊎-elim
     (λ w. rw (w .2) (w .1 .ensures))
     (λ w. rw (w .1)
-    (alone-wins (a .arcs) (now (a .costs)) (now (a .labels)) (now (a .lists)) (a .receiver) (length (now (a .costs))) (k .result .most + 1) (k .result .from) (first-found (c .before))
-    (k .ensures .only (w .0 .left))))
+    (alone-wins (a .arcs) (now (a .costs)) (now (a .labels)) (now (a .lists)) (a .receiver) (length (now (a .costs))) (k .result .most + 1) (k .result .from) (first-found (c .before .before))
+    (k .result .last) (omega (arith, w .0 .left)) (k .ensures .only)))
     (c .if2 .came)
 
 cast-from : tie.Need-cast-t12
-cast-from c = omega (arith, won-below _ _ _ _ _ (found (c .before)), c .before .before .before .before .before .before .before .pre)
+cast-from c = omega (arith, won-below _ _ _ _ _ (found (c .before)), c .before .before .before .before .before .before .before .before .pre)
 
 mul-joined : tie.Need-mul-joined
-mul-joined c = omega (arith, won-below _ _ _ _ _ (found (c .before)), c .before .before .before .before .before .before .before .pre)
+mul-joined c = omega (arith, won-below _ _ _ _ _ (found (c .before)), c .before .before .before .before .before .before .before .before .pre)
 
 shared-slice-read-joined : tie.Need-shared-slice-read-joined
-shared-slice-read-joined c = omega (arith, won-below _ _ _ _ _ (found (c .before .before)), c .before .before .before .before .before .before .before .before .pre)
+shared-slice-read-joined c = omega (arith, won-below _ _ _ _ _ (found (c .before .before)), c .before .before .before .before .before .before .before .before .before .pre)
 
 returns-2 : tie.Need-returns-2
 unfolding choiceMeans
 returns-2 c =
     let from = c .before .before .before .if2 .from in
-    let k = c .before .before .before .before .before .pass-all .result in
-    let a = c .before .before .before .before .before .before .before .before .before .args in
+    let k = c .before .before .before .before .before .before .pass-all .result in
+    let a = c .before .before .before .before .before .before .before .before .before .before .args in
     let ls = now (a .lists) in
     let j : c .joined .result ≡ put (getD ls from 0) (a .receiver) = c .joined .ensures ∙ rw (lt-ltb (a .receiver) 32 (omega arith)) in
     ap (λ i. chosen (via (k .most + 1) from i)) j

@@ -1,4 +1,4 @@
--- `routing::hear_row` meets its contract. The loop's invariant: the marks of the senders passed are heard.
+-- `routing::hear_fours` meets its contract. The loop's invariant: the marks of the senders passed are heard.
 -- Assumes nothing.
 use borrow.Author.Needs.{needs}
 use native.Mathlib.Omega.{arith}
@@ -16,8 +16,8 @@ use Rattle.memory.specs.Layout.{wordCount, view}
 use Rattle.routing.specs.Inner.{Hears, OnArc, rowMarks}
 use Rattle.routing.proofs.Marks.{beyond}
 use Rattle.routing.proofs.Hearing.{hears-first, row-unmarked, row-next, row-rest, node-kept, bit-on}
-use Rattle.routing.proofs.hear_row.Statement.{statement}
-use Rattle.routing.proofs.hear_row.Tie as tie
+use Rattle.routing.proofs.hear_fours.Statement.{statement}
+use Rattle.routing.proofs.hear_fours.Tie as tie
 
 -- bit k of the word shifted by s
 told : {t : Bool} (w b s k i : ℕ) → b ≡ w / 2 ^ s → s + k ≡ i → t ≡ has b k → t ≡ has w i
@@ -175,8 +175,8 @@ returns c =
       primed = l .inv .0 .primed;
     }
 
-pub hear-row-spec : {M : Type 1} → statement M
-hear-row-spec =
+pub hear-fours-spec : {M : Type 1} → statement M
+hear-fours-spec =
     tie.close
     (tie.spec
     Inv-loop
