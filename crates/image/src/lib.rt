@@ -200,9 +200,23 @@ fn both(a: bool, b: bool) -> u32
     (a & b) as u32
 }
 
-// How many reports receiver r holds, over these arcs. All 32 senders are passed, without a branch: a loop of known length over words that lie side by
+// How many reports receiver r holds, over these arcs, from arc to arc.
+fn held_few(net: &Network, arcs: u32, r: u32) -> u32
+    ensures { λ k. ⌜ k ≡ count (holds (now (net .entry)) arcs r) maxNodes ⌝ }
+{
+    let mut total: u32 = 0;
+    let mut left = arcs;
+    while left != 0 {
+        let s = ancestors::lowest(left);
+        total = total + both(true, memory::held_list_word(net, s, r) != 0);
+        left = ancestors::left_out(left, s);
+    }
+    total
+}
+
+// The same: all 32 senders are passed, without a branch: a loop of known length over words that lie side by
 // side becomes vector instructions.
-fn held_count(net: &Network, arcs: u32, r: u32) -> u32
+fn held_all(net: &Network, arcs: u32, r: u32) -> u32
     ensures { λ k. ⌜ k ≡ count (holds (now (net .entry)) arcs r) maxNodes ⌝ }
 {
     let mut total: u32 = 0;
@@ -214,6 +228,16 @@ fn held_count(net: &Network, arcs: u32, r: u32) -> u32
             );
     }
     total
+}
+
+// The same, from arc to arc where no two beside each other are arcs.
+fn held_count(net: &Network, arcs: u32, r: u32) -> u32
+    ensures { λ k. ⌜ k ≡ count (holds (now (net .entry)) arcs r) maxNodes ⌝ }
+{
+    if arcs & (arcs >> 1) == 0 {
+        return held_few(net, arcs, r);
+    }
+    held_all(net, arcs, r)
 }
 
 // The bytes of node r's row; 0 where none is written.
@@ -261,7 +285,8 @@ fn counted_length(net: &Network, arcs: &Arcs) -> usize
 pub fn image_length(net: &Network) -> usize
     ensures { λ r. ⌜ r ≡ length (image (view (now (net .entry)))) ⌝ }
 {
-    let arcs = memory::arc_words(net);
+    let mut arcs = [0u32; network::MAX_NODES as usize];
+    memory::arc_words(net, &mut arcs);
     counted_length(net, &arcs)
 }
 
@@ -391,7 +416,8 @@ fn fits(net: &Network, arcs: &Arcs, room: usize) -> bool
 pub fn write_image(net: &Network, out: &mut [u8]) -> Written
     ensures { λ w. ⌜ Writes (imageOf (view (now (net .entry))) (now (out .entry))) w (now (out .exit)) ⌝ }
 {
-    let arcs = memory::arc_words(net);
+    let mut arcs = [0u32; network::MAX_NODES as usize];
+    memory::arc_words(net, &mut arcs);
     if fits(net, &arcs, out.len()) {
         return Written {
             number: 0,

@@ -268,16 +268,15 @@ pub fn arcs(net: &Network, receiver: u32) -> ArcsRead
     }
 }
 
-// The arcs of each of 32 nodes, in the order of marks; 0 from n on.
-pub fn arc_words(net: &Network) -> [u32; BY_NODE]
-    ensures { λ r. ⌜ r ≡ arcWords (view (now (net .entry))) ⌝ }
+// Puts the arcs of each of 32 nodes into lent words, in the order of marks; 0 from n on.
+pub fn arc_words(net: &Network, words: &mut [u32; BY_NODE])
+    ensures { λ _. ⌜ now (words .exit) ≡ arcWords (view (now (net .entry))) ⌝ }
 {
     let n = nodes(net);
-    let mut words = [0u32; BY_NODE];
+    *words = [0u32; BY_NODE];
     for r in 0u32..n {
         words[r as usize] = arc_word(net, n, r);
     }
-    words
 }
 
 // What the words hold of any of 32 nodes, or of any pair of them, whatever n and the origin are and whether or not there is an arc: the next four calls.

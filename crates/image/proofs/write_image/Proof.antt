@@ -18,12 +18,12 @@ returns : tie.Need-returns
 returns c =
     let put = c .before .before in
     let room = put .before .before .before in
-    let a = room .before .before .before .before .before .args in
+    let a = room .before .before .before .before .before .before .args in
     answers-fits (view (now (a .net))) (now (a .out)) (leb-true _ _ (sym (room .before .fits2 .ensures) ∙ room .if1 .taken)) (put .put-image .ensures)
 
 returns-2 : tie.Need-returns-2
 returns-2 c =
-    let a = c .before .before .before .before .before .args in
+    let a = c .before .before .before .before .before .before .args in
     answers-short (view (now (a .net))) (now (a .out)) (leb-false _ _ (sym (c .before .fits2 .ensures) ∙ c .if1 .left))
 
 pub write-image-spec : {M : Type 1} → statement M

@@ -40,23 +40,23 @@ passed-all xs words size p =
     go i u (inr b) = p .0 i b
 
 abbrev Inv-loop : tie.InvT-loop
-Inv-loop net n words₀ r₀ words r = Passed (view net) words r × (length words ≡ 32) × (r ≤ n) × (n ≤ 32)
+Inv-loop net words₀ n r₀ words r = Passed (view net) words r × (length words ≡ 32) × (r ≤ n) × (n ≤ 32)
 
 abbrev μ-loop : tie.MeasureT-loop
-μ-loop net n words₀ r₀ words r = n - r
+μ-loop net words₀ n r₀ words r = n - r
 
 loop-holds : tie.Need-loop-holds Inv-loop μ-loop
 loop-holds c =
-    let n = c in
+    let n = c .before in
     ((λ k h. absurd (omega arith), λ k _ u. getD-replicate {A = ℕ} 32 k 0 0 u), length-replicate {A = ℕ} 32 0, omega arith, omega (arith, n .nodes .ensures, few (now (n .before .args .net))))
 
 arc-word-requires : tie.Need-arc-word-requires Inv-loop μ-loop
-arc-word-requires c κs = let n = c .before .before in (n .nodes .ensures, omega (arith, n .nodes .ensures, few (now (n .before .args .net))))
+arc-word-requires c κs = let n = c .before .before .before in (n .nodes .ensures, omega (arith, n .nodes .ensures, few (now (n .before .args .net))))
 
 loop-again : tie.Need-loop-again Inv-loop μ-loop
 loop-again c =
     let l = c .before .before .loop in
-    let x = view (now (c .before .before .before .before .args .net)) in (
+    let x = view (now (c .before .before .before .before .before .args .net)) in (
       passed-next x (l .words) (l .r) (c .arc-word .result) (omega (arith, l .inv .1)) (l .inv .0) (c .arc-word .ensures),
       length-set (l .words) (l .r) (c .arc-word .result) ∙ l .inv .1,
       omega arith,
@@ -66,7 +66,7 @@ loop-again c =
 returns : tie.Need-returns Inv-loop μ-loop
 returns c =
     let l = c .before .loop in
-    let n = c .before .before in
+    let n = c .before .before .before in
     let w = now (n .before .args .net) in
     let e : l .r ≡ view w .nodes = omega (arith, n .nodes .ensures) in
     passed-all w (l .words) (l .inv .1) (subst (Passed (view w) (l .words)) e (l .inv .0))

@@ -1,4 +1,4 @@
--- `image::held_count` meets its contract. The loop's invariant: the reports of the senders passed.
+-- `image::held_all` meets its contract. The loop's invariant: the reports of the senders passed.
 -- Assumes nothing.
 use native.Mathlib.Omega.{arith}
 use Prim.Native.Nat.{_+_, _-_, _≤_}
@@ -11,8 +11,8 @@ use Rattle.ancestors.proofs.Counting.{count-le}
 use Rattle.network.specs.Faults.{maxNodes}
 use Rattle.image.specs.Measured.{holds}
 use Rattle.image.proofs.Sums.{count-none, count-next}
-use Rattle.image.proofs.held_count.Statement.{statement}
-use Rattle.image.proofs.held_count.Tie as tie
+use Rattle.image.proofs.held_all.Statement.{statement}
+use Rattle.image.proofs.held_all.Tie as tie
 
 abbrev Inv-loop : tie.InvT-loop
 Inv-loop net arcs r total₀ s₀ total s = (total ≡ count (holds net arcs r) s) × (s ≤ maxNodes)
@@ -45,8 +45,8 @@ returns c =
     let a = c .before .before .args in
     l .inv .0 ∙ ap (count (holds (now (a .net)) (a .arcs) (a .r))) (omega arith)
 
-pub held-count-spec : {M : Type 1} → statement M
-held-count-spec =
+pub held-all-spec : {M : Type 1} → statement M
+held-all-spec =
     tie.close
     (tie.spec
     Inv-loop
