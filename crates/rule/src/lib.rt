@@ -116,7 +116,7 @@ fn fewest_ones(
 
 // What is kept of the senders that were passed: the least sum less one, the first that offers it, and one after which, and after the first, none does.
 struct Kept {
-    most: u32,
+    most: u64,
     from: usize,
     last: usize,
 }
@@ -139,8 +139,8 @@ fn pass_sender(
     ensures { λ r. ⌜ Passed arcs (now (costs .entry)) (now (labels .entry)) (now (lists .entry)) receiver (s + 1) (r .most) (r .from) (r .last) ⌝ }
 {
     let held = total(labels[s], costs[s]);
-    if wide(kept.most) <= held {
-        if held == wide(kept.most) {
+    if kept.most <= held {
+        if held == kept.most {
             return Kept {
                 most: kept.most,
                 from: kept.from,
@@ -156,12 +156,12 @@ fn pass_sender(
         lists[s],
         costs[s],
         receiver,
-        kept.most,
+        kept.most as u32,
     ) else {
         return kept;
     };
     Kept {
-        most: sum - 1,
+        most: wide(sum - 1),
         from: s,
         last: kept.last,
     }
@@ -224,7 +224,7 @@ fn pass_all(arcs: u32, costs: &[u32], labels: &[u32], lists: &[u32], receiver: u
     ensures { λ r. ⌜ Passed arcs (now (costs .entry)) (now (labels .entry)) (now (lists .entry)) receiver (length (now (costs .entry))) (r .most) (r .from) (r .last) ⌝ }
 {
     let none = Kept {
-        most: network::MAX_LABEL,
+        most: wide(network::MAX_LABEL),
         from: 0,
         last: 0,
     };
@@ -244,7 +244,7 @@ fn least_offer(arcs: u32, costs: &[u32], labels: &[u32], lists: &[u32], receiver
     ensures { λ r. ⌜ choiceMeans r ≡ chosen (choice (length (now (costs .entry))) (costsOf arcs (now (costs .entry))) (reports arcs (now (labels .entry)) (now (lists .entry))) receiver) ⌝ }
 {
     let kept = pass_all(arcs, costs, labels, lists, receiver);
-    let most = kept.most;
+    let most = kept.most as u32;
     let mut from = kept.from;
     if network::MAX_LABEL <= most {
         return Choice::NoRoute;
