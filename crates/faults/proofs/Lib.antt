@@ -1,3 +1,2 @@
--- What the leaf functions compute: bits not below n, and those of what is in range.
-mod Bits
+-- What the leaf functions compute: the bits of what is in range.
 mod Range

@@ -60,10 +60,7 @@ pub fn senders(n: u32, receiver: u32) -> u32
 pub fn bit_beyond(n: u32, list: u32) -> bool
     ensures { λ b. ⌜ b ≡ leb (2 ^ n) list ⌝ }
 {
-    if 32 <= n {
-        return false;
-    }
-    list >> n != 0
+    ancestors::below(list, n) != list
 }
 
 // The number of a list among n nodes: 12 for a bit not below n or without the node's, else 0.
