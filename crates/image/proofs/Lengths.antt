@@ -29,7 +29,7 @@ pub row-size : (y d p l : ℕ) → length (rowRecord y d p l) ≡ recordLength 3
 unfolding bodyLength
 row-size y d p l = row-long y d p l
 
-pub report-size : (s r d l : ℕ) → length (reportRecord s r d l) ≡ recordLength 3
+pub report-size : (s r d l : ℕ) → length (reportRecord s r d l) ≡ recordLength 4
 unfolding bodyLength
 report-size s r d l = report-long s r d l
 

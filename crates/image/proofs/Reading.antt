@@ -103,12 +103,12 @@ module _ (xs : List ℕ) (s r : ℕ) where
       go (inl e) = rw (e, arc-some e) (omega (arith, arc-size s r (costWord xs s r)))
       go (inr e) = rw (e, arc-none e) (omega arith)
 
-  pub report-counts : length (reportAt (view xs) s r) ≡ one (holds xs (arcsTo (view xs) r) r s) * recordLength 3
+  pub report-counts : length (reportAt (view xs) s r) ≡ one (holds xs (arcsTo (view xs) r) r s) * recordLength 4
   unfolding holds
   report-counts = go (bool-cases (has (arcsTo (view xs) r) s)) (bool-cases (eqb (heldListWord xs s r) 0))
     where
       go : (has (arcsTo (view xs) r) s ≡ true) ⊎ (has (arcsTo (view xs) r) s ≡ false) → (eqb (heldListWord xs s r) 0 ≡ true) ⊎ (eqb (heldListWord xs s r) 0 ≡ false)
-          → length (reportAt (view xs) s r) ≡ one (has (arcsTo (view xs) r) s && not (eqb (heldListWord xs s r) 0)) * recordLength 3
+          → length (reportAt (view xs) s r) ≡ one (has (arcsTo (view xs) r) s && not (eqb (heldListWord xs s r) 0)) * recordLength 4
       go (inr e) z = rw (e, report-none e) (omega arith)
       go (inl e) (inl z) = rw (e, z, report-empty e (eqb-true (heldListWord xs s r) 0 z)) (omega arith)
       go (inl e) (inr z) = rw (e, z, report-some e (eqb-false (heldListWord xs s r) 0 z)) (omega (arith, report-size s r (heldLabelWord xs s r) (heldListWord xs s r)))

@@ -19,12 +19,12 @@ use Rattle.image.proofs.Reading.{arc-counts, report-counts}
 
 -- by the arcs in the receiver's word, and by those among them that hold a report
 pub receiver-counts : (xs : List ℕ) (r : ℕ) → receiverBytes (view xs) r ≡ length (rowAt (view xs) r) +
-    (count (has (arcsTo (view xs) r)) maxNodes * recordLength 2 + count (holds xs (arcsTo (view xs) r) r) maxNodes * recordLength 3)
+    (count (has (arcsTo (view xs) r)) maxNodes * recordLength 2 + count (holds xs (arcsTo (view xs) r) r) maxNodes * recordLength 4)
 unfolding receiverBytes
 receiver-counts xs r =
     ap₂ (λ (a b : ℕ). length (rowAt (view xs) r) + (a + b))
     (sum-count (λ s. length (arcAt (view xs) s r)) (has (arcsTo (view xs) r)) (recordLength 2) maxNodes (λ s. arc-counts xs s r))
-    (sum-count (λ s. length (reportAt (view xs) s r)) (holds xs (arcsTo (view xs) r) r) (recordLength 3) maxNodes (λ s. report-counts xs s r))
+    (sum-count (λ s. length (reportAt (view xs) s r)) (holds xs (arcsTo (view xs) r) r) (recordLength 4) maxNodes (λ s. report-counts xs s r))
 
 -- a row, and an arc and a report from each of 32 nodes
 abbrev pub mostReceiver : ℕ

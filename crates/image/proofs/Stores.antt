@@ -10,7 +10,6 @@ use Rattle.records.specs.Numbers.{be8, be16, be32}
 use Rattle.records.specs.Records.{bodyLength, recordLength, rowRecord, reportRecord}
 use Rattle.filling.specs.Filling.{Wrote}
 use Rattle.filling.proofs.Fronts.{Front, none, more, front}
-use Rattle.image.specs.Items.{longStored, Stored}
 
 -- four numbers stored from a place on
 pub four : (e : List ℕ) (at a b c d : ℕ) → set (set (set (set e at a) (at + 1) b) (at + 2) c) (at + 3) d ≡ sets e at (a ∷ b ∷ c ∷ d ∷ [])
@@ -37,28 +36,20 @@ module _ (a b c d f : ℕ) where
   stored-five e h = five (front 5 e h)
 
 -- eleven bytes, of which two numbers of four first
-pub long-stored : (e : List ℕ) (kind y at d b o l : ℕ) {f g : List ℕ} → f ≡ sets e at (be32 d) → g ≡ sets f 7 (be32 l)
-    → set (set (set g 0 kind) 1 (y % 256)) b (o % 256) ≡ longStored e kind y at d b o l
-long-stored e kind y at d b o l p q = rw (q, p)
-
--- the same bytes, left and counted otherwise
-wrote-left : {w e x y : List ℕ} {k r : ℕ} → x ≡ y → r ≡ k → Wrote w e y k → Wrote w e x r
-wrote-left p q h = rw (p, q) h
-
 module _ (a b c d : ℕ) where
-  eleven-row : {e : List ℕ} → Front 11 e → Wrote (rowRecord a b c d) e (longStored e 3 a 2 b 6 c d) 11
+  eleven-row : {e : List ℕ} → Front 11 e → Wrote (rowRecord a b c d) e (set (set (set (sets (sets e 2 (be32 b)) 7 (be32 d)) 0 3) 1 (a % 256)) 6 (c % 256)) 11
   unfolding rowRecord be32 be16 be8
   eleven-row (more (more (more (more (more (more (more (more (more (more (more none))))))))))) = record { used = refl; left = refl }
 
-  eleven-report : {e : List ℕ} → Front 11 e → Wrote (reportRecord a b c d) e (longStored e 4 a 3 c 2 b d) 11
+  eleven-report : {e : List ℕ} → Front 11 e → Wrote (reportRecord a b c d) e (set (set (set (sets (sets e 7 (be32 d)) 3 (be32 c)) 0 4) 1 (a % 256)) 2 (b % 256)) 11
   unfolding reportRecord be32 be16 be8
   eleven-report (more (more (more (more (more (more (more (more (more (more (more none))))))))))) = record { used = refl; left = refl }
 
-  module _ (e : List ℕ) (room : recordLength 3 ≤ length e) where
-    pub stored-row : {x : List ℕ} {r : ℕ} → Stored (longStored e 3 a 2 b 6 c d) x (recordLength 3) r → Wrote (rowRecord a b c d) e x r
+  module _ (e : List ℕ) (room : recordLength 3 ≤ length e) {f g : List ℕ} where
+    pub stored-row : f ≡ sets e 2 (be32 b) → g ≡ sets f 7 (be32 d) → Wrote (rowRecord a b c d) e (set (set (set g 0 3) 1 (a % 256)) 6 (c % 256)) 11
     unfolding bodyLength
-    stored-row h = wrote-left (h .left) (h .used) (eleven-row (front 11 e room))
+    stored-row p q = rw (q, p) (eleven-row (front 11 e room))
 
-    pub stored-report : {x : List ℕ} {r : ℕ} → Stored (longStored e 4 a 3 c 2 b d) x (recordLength 3) r → Wrote (reportRecord a b c d) e x r
+    pub stored-report : {k : ℕ} → k ≡ c → f ≡ sets e 7 (be32 d) → g ≡ sets f 3 (be32 k) → Wrote (reportRecord a b c d) e (set (set (set g 0 4) 1 (a % 256)) 2 (b % 256)) 11
     unfolding bodyLength
-    stored-report h = wrote-left (h .left) (h .used) (eleven-report (front 11 e room))
+    stored-report same p q = rw (q, same, p) (eleven-report (front 11 e room))

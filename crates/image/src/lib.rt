@@ -13,12 +13,12 @@ ghost use Rattle.ancestors.specs.Ancestors.{one, count};
 ghost use Rattle.network.specs.Faults.{maxNodes};
 ghost use Rattle.network.specs.Writing.{Writes};
 ghost use Rattle.network.specs.Arcs.{arcsTo, arcWords};
-ghost use Rattle.memory.specs.Layout.{view};
+ghost use Rattle.memory.specs.Layout.{view, heldLabelWord};
 ghost use Rattle.records.specs.Numbers.{be32};
-ghost use Rattle.records.specs.Records.{recordLength, endRecord, headerRecord, arcRecord};
+ghost use Rattle.records.specs.Records.{recordLength, endRecord, headerRecord, arcRecord, rowRecord, reportRecord};
 ghost use Rattle.records.specs.Image.{image, imageOf};
 ghost use Rattle.filling.specs.Filling.{Wrote, Added};
-ghost use Rattle.image.specs.Items.{longStored, Stored, itemBytes};
+ghost use Rattle.image.specs.Items.{itemBytes};
 ghost use Rattle.image.specs.Lines.{rowAt, recordAt, recordLine, recordLines};
 ghost use Rattle.image.specs.Measured.{holds, receiverBytes, mostBytes};
 use memory::Network;
@@ -76,7 +76,7 @@ fn put_header(out: &mut [u8], n: u32, origin: u32) -> usize
 }
 
 // The compiler joins the bytes of a number into one store where no other byte is stored right before them. So the next writers begin with a number, and
-// those of two numbers have a test before the second, which always passes.
+// before the second one there is a test, which always passes, or a word of the network is read.
 
 // The record of an arc.
 fn put_arc(out: &mut [u8], sender: u32, receiver: u32, cost: u32) -> usize
@@ -102,36 +102,39 @@ fn put32(out: &mut [u8], at: usize, x: u32)
     out[at + 3] = (x % 256) as u8;
 }
 
-// A record of eleven bytes, of a row or a report: the label from one place on, another byte at a place, and the list at the end.
-fn put_long(
-    out: &mut [u8],
-    kind: u8,
-    node: u32,
-    label_at: usize,
-    label: u32,
-    other_at: usize,
-    other: u32,
-    list: u32,
-) -> usize
+// The record of a row.
+fn put_row(out: &mut [u8], node: u32, label: u32, predecessor: u32, list: u32) -> usize
     requires { ⌜ recordLength 3 ≤ length (now out) ⌝ }
-    requires { ⌜ «label_at» + 4 ≤ recordLength 3 ⌝ }
-    requires { ⌜ «other_at» < recordLength 3 ⌝ }
-    ensures { λ r. ⌜ Stored (longStored (now (out .entry)) kind node «label_at» label «other_at» other list) (now (out .exit)) (recordLength 3) r ⌝ }
+    ensures { λ r. ⌜ Wrote (rowRecord node label predecessor list) (now (out .entry)) (now (out .exit)) r ⌝ }
 {
-    put32(out, label_at, label);
+    put32(out, 2, label);
     if out.len() < ROW_LENGTH {
         return ROW_LENGTH;
     }
     put32(out, 7, list);
-    out[0] = kind;
+    out[0] = ROW;
     out[1] = (node % 256) as u8;
-    out[other_at] = (other % 256) as u8;
+    out[6] = (predecessor % 256) as u8;
     ROW_LENGTH
+}
+
+// The record of a report, whose label is read between its list and the rest.
+fn put_report(out: &mut [u8], net: &Network, sender: u32, receiver: u32, list: u32) -> usize
+    requires { ⌜ recordLength 4 ≤ length (now out) ⌝ }
+    ensures { λ r. ⌜ Wrote (reportRecord sender receiver (heldLabelWord (now (net .entry)) sender receiver) list) (now (out .entry)) (now (out .exit)) r ⌝ }
+{
+    put32(out, 7, list);
+    let label = memory::held_label_word(net, sender, receiver);
+    put32(out, 3, label);
+    out[0] = REPORT;
+    out[1] = (sender % 256) as u8;
+    out[2] = (receiver % 256) as u8;
+    REPORT_LENGTH
 }
 
 // ---- what the network has
 
-// A record of kind 2 or 4 from a sender to a receiver, or one of kind 3 of a node: what it holds besides these.
+// A record of kind 2 or 4 from a sender to a receiver, or one of kind 3 of a node: what it holds besides these, but for a report's label.
 enum Item {
     Nothing,
     Arc {
@@ -143,7 +146,6 @@ enum Item {
         list: u32,
     },
     Report {
-        label: u32,
         list: u32,
     },
 }
@@ -152,7 +154,7 @@ enum Item {
 fn read_item(net: &Network, arcs: &Arcs, kind: u8, s: u32, i: u32) -> Item
     requires { ⌜ now arcs ≡ arcWords (view (now net)) ⌝ }
     requires { ⌜ i < view (now net) .nodes ⌝ }
-    ensures { λ f. ⌜ itemBytes s i f ≡ recordAt (view (now (net .entry))) kind s i ⌝ }
+    ensures { λ f. ⌜ itemBytes (now (net .entry)) s i f ≡ recordAt (view (now (net .entry))) kind s i ⌝ }
 {
     if kind == ARC {
         if ancestors::listed(arcs[i as usize], s) {
@@ -183,10 +185,7 @@ fn read_item(net: &Network, arcs: &Arcs, kind: u8, s: u32, i: u32) -> Item
         if list == 0 {
             return Item::Nothing;
         }
-        return Item::Report {
-            label: memory::held_label_word(net, s, i),
-            list: list,
-        };
+        return Item::Report { list: list };
     }
     Item::Nothing
 }
@@ -293,9 +292,9 @@ pub fn image_length(net: &Network) -> usize
 // ---- a record where the network has one
 
 // At the front of a part, with the bytes used as the answer.
-fn put_item(item: Item, s: u32, i: u32, out: &mut [u8]) -> usize
-    requires { ⌜ length (itemBytes s i item) ≤ length (now out) ⌝ }
-    ensures { λ r. ⌜ Wrote (itemBytes s i item) (now (out .entry)) (now (out .exit)) r ⌝ }
+fn put_item(net: &Network, item: Item, s: u32, i: u32, out: &mut [u8]) -> usize
+    requires { ⌜ length (itemBytes (now net) s i item) ≤ length (now out) ⌝ }
+    ensures { λ r. ⌜ Wrote (itemBytes (now (net .entry)) s i item) (now (out .entry)) (now (out .exit)) r ⌝ }
 {
     match item {
         Item::Nothing => 0,
@@ -304,8 +303,8 @@ fn put_item(item: Item, s: u32, i: u32, out: &mut [u8]) -> usize
             label,
             predecessor,
             list,
-        } => put_long(out, ROW, i, 2, label, 6, predecessor, list),
-        Item::Report { label, list } => put_long(out, REPORT, s, 3, label, 2, i, list),
+        } => put_row(out, i, label, predecessor, list),
+        Item::Report { list } => put_report(out, net, s, i, list),
     }
 }
 
@@ -327,7 +326,7 @@ fn put_record(
     let item = read_item(net, arcs, kind, s, i);
     match item {
         Item::Nothing => at,
-        _ => at + put_item(item, s, i, &mut out[at..]),
+        _ => at + put_item(net, item, s, i, &mut out[at..]),
     }
 }
 

@@ -1,13 +1,11 @@
 -- `image::put_item` meets its contract: the record of what was read.
 -- Assumes nothing.
 use borrow.Author.Needs.{needs}
-use native.Mathlib.Omega.{arith}
 use mathlib.Core.Path.{ap}
 use denote.Ref.{now}
 use Rattle.filling.proofs.Parts.{wrote-none, wrote-as, room-as}
 use Rattle.image.specs.Items.{itemBytes}
-use Rattle.image.proofs.Lengths.{sizes, arc-size, row-size, report-size}
-use Rattle.image.proofs.Stores.{stored-row, stored-report}
+use Rattle.image.proofs.Lengths.{arc-size, row-size, report-size}
 use Rattle.image.proofs.put_item.Statement.{statement}
 use Rattle.image.proofs.put_item.Tie as tie
 
@@ -17,29 +15,29 @@ put-arc-requires c κs =
     let item = c .before .before in
     let b = item .before .before .before in
     let a = b .args in
-    room-as (ap (itemBytes (a .s) (a .i)) (item .item .given .1)) (arc-size _ _ _) (b .pre)
+    room-as (ap (itemBytes (now (a .net)) (a .s) (a .i)) (item .item .given .1)) (arc-size _ _ _) (b .pre)
 
-put-long-requires : tie.Need-put-long-requires
+put-row-requires : tie.Need-put-row-requires
 unfolding itemBytes
-put-long-requires c κs =
+put-row-requires c κs =
     let item = c .before .before in
     let b = item .before .before .before in
     let a = b .args in
-    (room-as (ap (itemBytes (a .s) (a .i)) (item .item2 .given .1)) (row-size _ _ _ _) (b .pre), (omega (arith, sizes), omega (arith, sizes)))
+    room-as (ap (itemBytes (now (a .net)) (a .s) (a .i)) (item .item2 .given .1)) (row-size _ _ _ _) (b .pre)
 
-put-long-requires-2 : tie.Need-put-long-requires-2
+put-report-requires : tie.Need-put-report-requires
 unfolding itemBytes
-put-long-requires-2 c κs =
+put-report-requires c κs =
     let item = c .before .before in
     let b = item .before .before .before in
     let a = b .args in
-    (room-as (ap (itemBytes (a .s) (a .i)) (item .item3 .given .1)) (report-size _ _ _ _) (b .pre), (omega (arith, sizes), omega (arith, sizes)))
+    room-as (ap (itemBytes (now (a .net)) (a .s) (a .i)) (item .item3 .given .1)) (report-size _ _ _ _) (b .pre)
 
 returns : tie.Need-returns
 unfolding itemBytes
 returns c =
     let a = c .before .before .before .args in
-    wrote-none (now (a .out)) (ap (itemBytes (a .s) (a .i)) (c .enum-told .given .1))
+    wrote-none (now (a .out)) (ap (itemBytes (now (a .net)) (a .s) (a .i)) (c .enum-told .given .1))
 
 returns-2 : tie.Need-returns-2
 unfolding itemBytes
@@ -48,7 +46,7 @@ returns-2 c =
     let item = put .before .before .before in
     let b = item .before .before .before in
     let a = b .args in
-    wrote-as (ap (itemBytes (a .s) (a .i)) (item .item .given .1)) (put .put-arc .ensures)
+    wrote-as (ap (itemBytes (now (a .net)) (a .s) (a .i)) (item .item .given .1)) (put .put-arc .ensures)
 
 returns-3 : tie.Need-returns-3
 unfolding itemBytes
@@ -57,7 +55,7 @@ returns-3 c =
     let item = put .before .before .before in
     let b = item .before .before .before in
     let a = b .args in
-    wrote-as (ap (itemBytes (a .s) (a .i)) (item .item2 .given .1)) (stored-row _ _ _ _ (now (a .out)) (room-as (ap (itemBytes (a .s) (a .i)) (item .item2 .given .1)) (row-size _ _ _ _) (b .pre)) (put .put-long .ensures))
+    wrote-as (ap (itemBytes (now (a .net)) (a .s) (a .i)) (item .item2 .given .1)) (put .put-row .ensures)
 
 returns-4 : tie.Need-returns-4
 unfolding itemBytes
@@ -66,7 +64,7 @@ returns-4 c =
     let item = put .before .before .before in
     let b = item .before .before .before in
     let a = b .args in
-    wrote-as (ap (itemBytes (a .s) (a .i)) (item .item3 .given .1)) (stored-report _ _ _ _ (now (a .out)) (room-as (ap (itemBytes (a .s) (a .i)) (item .item3 .given .1)) (report-size _ _ _ _) (b .pre)) (put .put-long2 .ensures))
+    wrote-as (ap (itemBytes (now (a .net)) (a .s) (a .i)) (item .item3 .given .1)) (put .put-report .ensures)
 
 pub put-item-spec : {M : Type 1} → statement M
 put-item-spec =
@@ -76,9 +74,9 @@ put-item-spec =
     (λ c. search needs)
     put-arc-requires
     (λ c. search needs)
-    put-long-requires
+    put-row-requires
     (λ c. search needs)
-    put-long-requires-2
+    put-report-requires
     returns
     (λ c. search needs)
     returns-2

@@ -32,7 +32,7 @@ unfolding itemBytes
 returns c =
     let read = c .before .before in
     let a = read .before .before .args in
-    added-none (now (a .out)) (a .at) (sym (read .read-item .ensures) ∙ ap (itemBytes (a .s) (a .i)) (c .enum-told .given .1)) (omega arith)
+    added-none (now (a .out)) (a .at) (sym (read .read-item .ensures) ∙ ap (itemBytes (now (a .net)) (a .s) (a .i)) (c .enum-told .given .1)) (omega arith)
 
 returns-2 : tie.Need-returns-2
 returns-2 c =

@@ -2,9 +2,9 @@
 -- Assumes nothing.
 use borrow.Author.Needs.{needs}
 use native.Mathlib.Omega.{arith}
-use mathlib.Core.Path.{sym, ap, ap₂, _∙_}
+use mathlib.Core.Path.{sym, ap, _∙_}
 use denote.Ref.{now}
-use Rattle.memory.specs.Layout.{view}
+use Rattle.memory.specs.Layout.{view, heldLabelWord}
 use Rattle.memory.proofs.Laws.{few}
 use Rattle.records.specs.Records.{arcRecord, reportRecord}
 use Rattle.image.specs.Items.{itemBytes}
@@ -73,7 +73,7 @@ returns-5 c =
 returns-6 : tie.Need-returns-6
 unfolding itemBytes
 returns-6 c =
-    let list = c .before .before in
+    let list = c .before in
     let listed = list .before .before in
     let kind = listed .before .before in
     let b = kind .before .before in
@@ -82,8 +82,8 @@ returns-6 c =
     let bit = bit-of w (now (a .arcs)) (a .i) (b .pre .0) (b .pre .1) (a .s) (listed .listed2 .ensures) (list .before .if4 .taken) in
     let l = list .held-list-word .ensures in
     sym (kind-report (view w) (a .kind) (a .s) (a .i) (kind .before .if1 .left) (kind .if3 .left)
-    ∙ report-some w (a .s) (a .i) bit (λ z. c .before .if5 .left (l ∙ z))
-    ∙ ap₂ (reportRecord (a .s) (a .i)) (sym (c .held-label-word .ensures)) (sym l))
+    ∙ report-some w (a .s) (a .i) bit (λ z. c .if5 .left (l ∙ z))
+    ∙ ap (reportRecord (a .s) (a .i) (heldLabelWord w (a .s) (a .i))) (sym l))
 
 returns-7 : tie.Need-returns-7
 unfolding itemBytes
@@ -115,6 +115,5 @@ read-item-spec =
     (λ c κs. search needs)
     (λ c κs. search needs)
     returns-5
-    (λ c κs. search needs)
     returns-6
     returns-7)
