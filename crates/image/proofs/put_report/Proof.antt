@@ -1,6 +1,5 @@
 -- `image::put_report` meets its contract: eleven bytes, of which two numbers first.
 -- Assumes nothing.
-use borrow.Author.Needs.{needs}
 use native.Mathlib.Omega.{arith}
 use lib.ListN.{length-set}
 use denote.Ref.{now}
