@@ -167,6 +167,9 @@ fn pass_sender(
     }
 }
 
+// Among how many senders it takes no longer to go from arc to arc, whatever arcs there are.
+const FEW: usize = 8;
+
 // Passes all senders, one by one.
 fn pass_senders(
     arcs: u32,
@@ -216,7 +219,7 @@ fn pass_arcs(
     kept
 }
 
-// Goes from arc to arc where no three beside each other are arcs, and else passes all senders, which takes less time for each.
+// Goes from arc to arc among few senders and where no three beside each other have one, and else passes all senders, which takes less time for each.
 fn pass_all(arcs: u32, costs: &[u32], labels: &[u32], lists: &[u32], receiver: u32) -> Kept
     requires { ⌜ length (now costs) ≤ 32 ⌝ }
     requires { ⌜ length (now labels) ≡ length (now costs) ⌝ }
@@ -228,9 +231,11 @@ fn pass_all(arcs: u32, costs: &[u32], labels: &[u32], lists: &[u32], receiver: u
         from: 0,
         last: 0,
     };
-    let pairs = arcs & (arcs >> 1);
-    if pairs & (pairs >> 1) != 0 {
-        return pass_senders(arcs, costs, labels, lists, receiver, none);
+    if FEW < costs.len() {
+        let pairs = arcs & (arcs >> 1);
+        if pairs & (pairs >> 1) != 0 {
+            return pass_senders(arcs, costs, labels, lists, receiver, none);
+        }
     }
     pass_arcs(arcs, costs, labels, lists, receiver, none)
 }

@@ -19,8 +19,8 @@ none-passed c =
 
 pass-senders-requires : tie.Need-pass-senders-requires
 pass-senders-requires c κs =
-    let p = c .before .before .before .before .before .pre in
-    (p .0, (p .1 .0, (p .1 .1, none-passed (c .before))))
+    let p = c .before .before .before .before .before .before .pre in
+    (p .0, (p .1 .0, (p .1 .1, none-passed (c .before .before))))
 
 returns : tie.Need-returns
 returns c = c .pass-senders .ensures
