@@ -120,7 +120,7 @@ low-next l k =
     ap (λ (j : ℕ). l % 2 ^ j) e ∙ sym (split (l % 2 ^ (1 + k)) k) ∙ ap₂ (λ (a b : ℕ). a * 2 ^ k + b) (field l 1 k) (mod-mod-pow l 1 k)
 
 -- the nodes of a list below k
-pub those-low : (l k : ℕ) → l % 2 ^ k ≡ those (has l) k
+those-low : (l k : ℕ) → l % 2 ^ k ≡ those (has l) k
 unfolding those
 those-low l zero = omega arith
 those-low l (suc k) = low-next l k ∙ go (bool-cases (has l k)) (those-low l k)
@@ -138,6 +138,9 @@ those-low l (suc k) = low-next l k ∙ go (bool-cases (has l k)) (those-low l k)
         → l / 2 ^ k % 2 * 2 ^ k + l % 2 ^ k ≡ cond (has l k) (put (those (has l) k) k) (those (has l) k)
     go (inl e) again = rw (e, ← again, set-bit l k e, new) (omega arith)
     go (inr e) again = rw (e, ← again, clear-bit l k e) (omega arith)
+
+pub has-low : (l k i : ℕ) → has (l % 2 ^ k) i ≡ (ltb i k && has l i)
+has-low l k i = ap (λ m. has m i) (those-low l k) ∙ has-those (has l) k i
 
 -- a list is the list of its nodes
 pub those-has : (k l : ℕ) → l < 2 ^ k → l ≡ those (has l) k

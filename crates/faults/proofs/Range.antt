@@ -11,7 +11,7 @@ use borrow.Author.Tests.{lt-ltb, le-ltb}
 use Rattle.ancestors.specs.Ancestors.{has, put, cut, those}
 use Rattle.ancestors.proofs.Cases.{le-or-lt, eq-or-ne}
 use Rattle.ancestors.proofs.Laws.{has-empty}
-use Rattle.ancestors.proofs.Sets.{has-those, those-ext, those-has, those-low, has-cut-same, has-cut-other, cut-below}
+use Rattle.ancestors.proofs.Sets.{has-those, those-ext, those-has, has-low, has-cut-same, has-cut-other, cut-below}
 use Rattle.network.specs.Faults.{pairFault}
 use Rattle.network.specs.Arcs.{senders}
 use Rattle.network.proofs.FaultLaws.{pair-free, sender-bad, receiver-bad, pair-same}
@@ -26,7 +26,7 @@ has-all s h = ap (λ l. has l s) all-bits ∙ has-those (λ s. true) 32 s ∙ rw
 
 -- those below n
 has-below : (n s : ℕ) → s < 32 → has (4294967295 % 2 ^ n) s ≡ ltb s n
-has-below n s h = ap (λ l. has l s) (those-low 4294967295 n) ∙ has-those (has 4294967295) n s ∙ rw (has-all s h) (go (ltb s n))
+has-below n s h = has-low 4294967295 n s ∙ rw (has-all s h) (go (ltb s n))
   where
     go : (b : _) → (b && true) ≡ b
     go true = refl

@@ -3,7 +3,7 @@
 use borrow.Author.Needs.{needs}
 use native.Mathlib.Omega.{arith}
 use Prim.Native.Nat.{ℕ, _+_, _%_, _^_, _<_, _≤_}
-use mathlib.Core.Path.{_≡_, sym, ap, subst, _∙_}
+use mathlib.Core.Path.{_≡_, sym, subst, _∙_}
 use mathlib.Core.Bool.{true, false, _&&_}
 use lib.Dec.{ltb}
 use lib.ListN.{length}
@@ -11,7 +11,7 @@ use borrow.Author.Tests.{lt-ltb, ltb-true}
 use denote.Ref.{now}
 use Rattle.ancestors.specs.Ancestors.{has, count}
 use Rattle.ancestors.proofs.Cases.{and-both}
-use Rattle.ancestors.proofs.Sets.{has-those, those-low}
+use Rattle.ancestors.proofs.Sets.{has-low}
 use Rattle.ancestors.proofs.Walk.{Rest, rest-all, rest-none, next-node, left-node}
 use Rattle.rule.specs.Passed.{Passed}
 use Rattle.rule.proofs.Least.{absent-pass}
@@ -19,14 +19,11 @@ use Rattle.rule.proofs.pass_arcs.Statement.{statement}
 use Rattle.rule.proofs.pass_arcs.Tie as tie
 
 -- the bits of a word below n
-low-bit : (w n i : ℕ) → has (w % 2 ^ n) i ≡ (ltb i n && has w i)
-low-bit w n i = ap (λ v. has v i) (those-low w n) ∙ has-those (has w) n i
-
 low-same : (w n i : ℕ) → i < n → has (w % 2 ^ n) i ≡ false → has w i ≡ false
-low-same w n i h e = let q : (ltb i n && has w i) ≡ false = sym (low-bit w n i) ∙ e in rw (lt-ltb i n h) at q
+low-same w n i h e = let q : (ltb i n && has w i) ≡ false = sym (has-low w n i) ∙ e in rw (lt-ltb i n h) at q
 
 low-under : (w n i : ℕ) → has (w % 2 ^ n) i ≡ true → i < n
-low-under w n i e = ltb-true i n (and-both (ltb i n) (has w i) (sym (low-bit w n i) ∙ e) .0)
+low-under w n i e = ltb-true i n (and-both (ltb i n) (has w i) (sym (has-low w n i) ∙ e) .0)
 
 abbrev Inv-loop : tie.InvT-loop
 Inv-loop arcs costs labels lists receiver n kept₀ left₀ kept left =
