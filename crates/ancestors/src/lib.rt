@@ -2,6 +2,8 @@
 // it has a node that another list has not, its lowest node, how many nodes it has, and its hops.
 //
 // No function has a precondition: a node above 31 is in no list and joins none.
+#![tactic(auto)]
+
 ghost use Rattle.std.specs.Prelude.{◌≡◌, cond, not, ◌%◌, ◌^◌, ltb};
 ghost use Rattle.std.specs.Int.Count.{count_trailing_zeros};
 ghost use Rattle.ancestors.specs.Ancestors.{has, put, cut, inside, hops, count};

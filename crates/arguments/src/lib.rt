@@ -1,6 +1,8 @@
 // Arguments of programs, each in the bytes of its text: the flag -r, a number in decimal, and a base as dotted decimal.
 //
 // Contracts go by specs/Arguments.antt and hold for any bytes. No public function has a precondition.
+#![tactic(auto)]
+
 ghost use Rattle.std.specs.Prelude.{◌≡◌, ◌+◌, ◌*◌, ◌-◌, ◌≤◌, length};
 ghost use Rattle.arguments.specs.Arguments.{is_flag_of, capped, no_number_of, read_count_of, read_base_of};
 ghost use Rattle.arguments.specs.Inner.{DotAt};

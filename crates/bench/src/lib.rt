@@ -1,5 +1,7 @@
 // The calls under C names, for the benchmark in bench/ and the comparisons in tests/. Where the answer is a number it is the call itself, with its
 // contract; the others hand out the answer in lent words.
+#![tactic(auto)]
+
 ghost use Rattle.std.specs.Prelude.{◌≡◌, ◌∷◌, ◌+◌, length, get_or};
 ghost use Rattle.network.specs.Faults.{max_nodes};
 ghost use Rattle.network.specs.Network.{fresh_of};

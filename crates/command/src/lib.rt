@@ -1,6 +1,8 @@
 // What the program `rip` writes, from a base, n and its input: every byte, and whether it is for standard output or for standard error.
 //
 // Contracts go by specs/Saying.antt and hold for any bytes. No public function has a precondition.
+#![tactic(auto)]
+
 ghost use Rattle.std.specs.Prelude.{◌≡◌, false, ◌+◌, ◌-◌, ◌≤◌, length};
 ghost use Rattle.filling.specs.Filling.{Wrote};
 ghost use Rattle.text.specs.Filled.{Filled};

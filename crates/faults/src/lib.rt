@@ -2,6 +2,8 @@
 // word; and the cost of a grade.
 //
 // The crate `network` has the definitions. No public function has a precondition.
+#![tactic(auto)]
+
 ghost use Rattle.std.specs.Prelude.{◌≡◌, cond, ◌^◌, ltb, leb};
 ghost use Rattle.network.specs.Faults.{max_label, pair_fault_of, list_fault_of, row_form_number, report_form_number};
 ghost use Rattle.network.specs.Arcs.{senders};

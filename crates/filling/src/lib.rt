@@ -1,4 +1,6 @@
 // Outputs filled from the front or from a place on: what a writer leaves (specs/), its laws (proofs/), and bytes copied.
+#![tactic(auto)]
+
 ghost use Rattle.filling.specs.Filling.{Wrote, copied};
 
 // Copies the bytes to the front of the output and answers how many they are. In an output shorter than they are nothing is written, and the answer is 0.

@@ -1,6 +1,8 @@
 // The C call: a run and a lent output in, the resulting image out.
 //
 // The contract goes by `call_of` (specs/Calling.antt) and holds for any run and any output. From C: include/gerqalli.h.
+#![tactic(auto)]
+
 ghost use Rattle.std.specs.Prelude.{◌≡◌, ◌≤◌};
 ghost use Rattle.firmware.specs.Calling.{refused_answer, call_of, Answers};
 

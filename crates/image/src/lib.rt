@@ -3,6 +3,8 @@
 // Each record is written into the part of the output not yet filled: the writer lends the rest of the output to a record writer, which answers
 // the bytes used and leaves the remainder unchanged. The network is read by calls of `memory`; which arcs there are it answers once, as words, and an
 // arc's cost and report are then read without a look at n. No public function has a precondition.
+#![tactic(auto)]
+
 ghost use Rattle.std.specs.Prelude.{◌≡◌, ◌&&◌, ◌+◌, ◌<◌, ◌≤◌, leb, length};
 ghost use Rattle.std.proofs.lemmas.List.Edits.{sets};
 ghost use Rattle.ancestors.specs.Ancestors.{one, count};

@@ -3,6 +3,8 @@
 // Contracts go through `view`, the network that the words give (specs/Layout.antt), and hold for any words. A refused call leaves every word as it
 // stood, but for `make_fresh`: refused or not, it makes the words give a fresh network, and says nothing of words that play no part in it. Of
 // the public functions only `list_word`, `cost_word`, `held_label_word` and `held_list_word` read such words. No public function has a precondition.
+#![tactic(auto)]
+
 ghost use Rattle.std.specs.Prelude.{◌≡◌, cond, ◌<◌, ◌≤◌, length};
 ghost use Rattle.network.specs.Faults.{max_nodes, max_cost};
 ghost use Rattle.network.specs.Network.{fresh_net, fresh_of};

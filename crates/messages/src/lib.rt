@@ -2,6 +2,8 @@
 //
 // Contracts go by change request Three's definitions (crates/response/specs) and hold for any words and bytes. The network is read by calls of `memory`.
 // A refused call writes nothing. No public function has a precondition.
+#![tactic(auto)]
+
 ghost use Rattle.std.specs.Prelude.{◌≡◌, [], ◌+◌, ◌*◌, ◌<◌, ◌≤◌, length};
 ghost use Rattle.network.specs.Faults.{max_nodes};
 ghost use Rattle.network.specs.Writing.{Writes};

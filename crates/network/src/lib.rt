@@ -1,5 +1,6 @@
 // The network: limits, and the types of an offer, a choice and an answer. specs/ has document 01's definitions, proofs/ their laws. There are no
 // functions; the rule on numbers and slices is in the crate `rule`, the calls on a network in `memory` and `routing`.
+#![tactic(auto)]
 
 // The most nodes, and the largest label: 31 times the largest cost.
 pub const MAX_NODES: u32 = 32;

@@ -2,6 +2,8 @@
 //
 // Contracts go through `memory`'s `view`. Refused or not, `open_into` says which network the lent words give, and nothing of words that play no part in
 // it. No public function has a precondition; the private ones ask for small nodes and ranks and for a start within the input.
+#![tactic(auto)]
+
 ghost use Rattle.std.specs.Prelude.{◌≡◌, ◌<◌, ◌≤◌, length, drop};
 ghost use Rattle.network.specs.Faults.{pair_count};
 ghost use Rattle.memory.specs.Layout.{view};

@@ -1,6 +1,8 @@
 // Reading one record of a state file, and the words of a body.
 //
 // The crate `records` has document 01's definitions; the functions that others can reach have no precondition.
+#![tactic(auto)]
+
 ghost use Rattle.std.specs.Prelude.{◌≡◌, ◌+◌, ◌<◌, length, drop};
 ghost use Rattle.records.specs.Numbers.{num8, num16, num32};
 ghost use Rattle.records.specs.Records.{at_start, in_image, as_event, arc_change, grade_change, refused_record, bodied, record_of};

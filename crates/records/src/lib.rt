@@ -1,4 +1,5 @@
 // State files: the bytes of each kind, and what reading a record finds. Definitions in specs/, the acceptance theorem in proofs/. There are no functions.
+#![tactic(auto)]
 
 // The body bytes of each kind that has a body.
 pub const HEADER_BODY: usize = 2;

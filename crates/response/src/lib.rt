@@ -2,6 +2,8 @@
 // Three's definitions, proofs/ their laws and the theorems; the calls are in the crate `messages`.
 //
 // No function has a precondition.
+#![tactic(auto)]
+
 ghost use Rattle.std.specs.Prelude.{◌≡◌, cond, ◌+◌, ◌*◌};
 ghost use Rattle.filling.specs.Filling.{Wrote, copied};
 ghost use Rattle.response.specs.Messages.{hops_metric_of, entry, entry_count_of, message_count_of, messages_length_of, base_fault, given_then};

@@ -2,6 +2,8 @@
 // prints the metrics of messages.
 //
 // `arguments` reads the arguments, `input` standard input, and `command` makes what is written.
+#![tactic(auto)]
+
 ghost use Rattle.std.specs.Prelude.{◌≤◌, length};
 
 use arguments::{BaseRead, CountRead};

@@ -2,6 +2,8 @@
 //
 // The contract goes through `memory`'s `view` and holds for any words. A refused call writes nothing. The public function has no
 // precondition.
+#![tactic(auto)]
+
 ghost use Rattle.std.specs.Prelude.{◌≡◌, length};
 ghost use Rattle.network.specs.Faults.{max_nodes};
 ghost use Rattle.network.specs.Route.{start_number_of, walk_back_of, route_of};

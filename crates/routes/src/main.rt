@@ -1,6 +1,8 @@
 // The office program: reads a run from standard input and prints the table of its network.
 //
 // `input` reads, and `table` makes what is printed.
+#![tactic(auto)]
+
 use libc::STDOUT_FILENO;
 
 // One byte more than the longest input, so that a longer one is known without reading all of it.

@@ -2,6 +2,8 @@
 //
 // Contracts go through `memory`'s `view` and hold for any words. A refused round leaves every word as it stood. No public function has a
 // precondition; the private ones ask for the number of words and for what their callers have tested.
+#![tactic(auto)]
+
 ghost use Rattle.std.specs.Prelude.{◌≡◌, ◌≢◌, cond, ◌<◌, length, set};
 ghost use Rattle.network.specs.Network.{with_row};
 ghost use Rattle.network.specs.Round.{choice, hear, renew, round, round_of, full_round_of};

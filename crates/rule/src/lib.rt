@@ -2,6 +2,8 @@
 //
 // The crate `network` has document 01's definitions; the calls on a whole network are in `memory` and `routing`.
 // No public function has a precondition.
+#![tactic(auto)]
+
 ghost use Rattle.std.specs.Prelude.{◌≡◌, cond, ◌||◌, ◌+◌, ◌<◌, ◌≤◌, length};
 ghost use Rattle.ancestors.specs.Ancestors.{has};
 ghost use Rattle.network.specs.Faults.{max_label};

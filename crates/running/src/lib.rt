@@ -1,6 +1,8 @@
 // A run: an image, and then events to the input's end.
 //
 // Contracts go by `run_of` (crates/records/specs/Running.antt) and hold for any input. The public function has no precondition.
+#![tactic(auto)]
+
 ghost use Rattle.std.specs.Prelude.{◌≡◌, [], ◌≤◌, length};
 ghost use Rattle.records.specs.Numbers.{words_in};
 ghost use Rattle.records.specs.Running.{event_done, rounds_in};

@@ -3,6 +3,8 @@
 // Each part of the text is written after those before it. Contracts go by `text_of` (specs/Text.antt) and hold for any input.
 // The public function has no precondition: the output has room for every text. What a writer asks for and uses at most is a number of bytes that goes
 // by the sizes of numbers alone, so that it does not matter whether the words that it reads are a network within limits.
+#![tactic(auto)]
+
 ghost use Rattle.std.specs.Prelude.{◌++◌, ◌+◌, ◌≤◌, ◌<◌, length};
 ghost use Rattle.memory.specs.Layout.{view};
 ghost use Rattle.records.specs.Image.{each};

@@ -2,6 +2,8 @@
 //
 // Each writer answers the place after its bytes. Where there is no room for all of them, it writes none and answers the place that it was given.
 // No writer has a precondition: the place may lie past the end of the output.
+#![tactic(auto)]
+
 ghost use Rattle.std.specs.Prelude.{◌++◌};
 ghost use Rattle.text.specs.Text.{decimal, last_line};
 ghost use Rattle.text.specs.Puts.{Puts};

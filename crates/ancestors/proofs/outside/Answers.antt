@@ -2,12 +2,8 @@
 -- Assumes nothing.
 use mathlib.Core.Path.{refl}
 use Rattle.ancestors.specs.Ancestors.{inside}
-use Rattle.ancestors.proofs.outside.Statement.{statement}
-use Rattle.ancestors.proofs.outside.Tie as tie
+use Rattle.ancestors.proofs.outside.Goals as goal
 
-returns : tie.Need-returns
+pub returns : goal.returns
 unfolding inside
 returns c = refl
-
-pub outside-spec : {M : Type 1} → statement M
-outside-spec = tie.close (tie.spec returns)
