@@ -1,6 +1,6 @@
 -- A node has at most one settled row, with a route exactly where a walk leads.
 -- Assumes nothing.
-use mathlib.Core.Path.{◌≡◌, refl, sym, ap, subst}
+use mathlib.Core.Path.{◌≡◌, refl, sym, ap, ap₂, subst}
 use Prim.Native.Nat.{ℕ}
 use native.Mathlib.Omega.{arith}
 use Rattle.ancestors.specs.Ancestors.{put}
@@ -22,13 +22,16 @@ module _ (cost : ℕ → ℕ → ℕ) (origin : ℕ) where
         b.lowest p a.tight (subst (λ (k : ℕ). Walk cost origin p k a.tight.before) same a.walk),
       )
 
-  -- and one list of nodes along settled predecessors
+  -- and one list of nodes along settled predecessors; over two nodes, since a case says of each which it is
+  ancestors_same : {y z l m : ℕ} → y ≡ z → Ancestors cost origin y l → Ancestors cost origin z m → l ≡ m
+  ancestors_same e at_origin at_origin = refl
+  ancestors_same e at_origin (behind ne p a) = absurd (ne (sym e))
+  ancestors_same e (behind ne p a) at_origin = absurd (ne e)
+  ancestors_same e (behind ne f a) (behind {p = q} ne' g b) =
+      ap₂ put (ancestors_same (predecessor_once f (subst (λ (k : ℕ). Predecessor cost origin k q) (sym e) g)) a b) e
+
   pub ancestors_once : {y l m : ℕ} → Ancestors cost origin y l → Ancestors cost origin y m → l ≡ m
-  ancestors_once at_origin at_origin = refl
-  ancestors_once at_origin (behind ne p a) = absurd (ne refl)
-  ancestors_once (behind ne p a) at_origin = absurd (ne refl)
-  ancestors_once (behind {y = y} ne p a) (behind {l = m} ne' q b) =
-      ap (λ (l : ℕ). put l y) (ancestors_once a (subst (λ (s : ℕ). Ancestors cost origin s m) (predecessor_once q p) b))
+  ancestors_once a b = ancestors_same refl a b
 
   -- a node has at most one settled row
   pub settled_once : {y : ℕ} {a b : Row} → Settled cost origin y a → Settled cost origin y b → a ≡ b
