@@ -6,12 +6,8 @@ use native.Mathlib.Omega.{arith}
 use lib.Bits.{and_mask}
 use lib.Dec.{eqb}
 use Rattle.ancestors.specs.Ancestors.{has}
-use Rattle.rule.proofs.present.Statement.{statement}
-use Rattle.rule.proofs.present.Tie as tie
+use Rattle.rule.proofs.present.Goals as goal
 
-returns : tie.Need-returns
+pub returns : goal.returns
 unfolding has
 returns c = ap (λ (x : ℕ). eqb x 1) (and_mask (c.args.arcs / 2 ^ c.args.sender) 1)
-
-pub present-spec : {M : Type 1} → statement M
-present-spec = tie.close (tie.spec (λ c. omega arith) returns)

@@ -11,9 +11,9 @@ use lib.Dec.{eqb, leb}
 use lib.Pow.{pow_pos}
 use borrow.Author.Tests.{eq-eqb, ne_eqb, le-leb, lt-leb}
 use Rattle.ancestors.proofs.Cases.{le_or_lt}
-use Rattle.faults.proofs.bit_beyond.Statement.{statement}
-use Rattle.faults.proofs.bit_beyond.Tie as tie
+use Rattle.faults.proofs.bit_beyond.Goals as goal
 
+-- LOCAL
 others : (n l : ℕ) → not (eqb (l % 2 ^ n) l) ≡ leb (2 ^ n) l
 others n l = go (le_or_lt (2 ^ n) l)
   where
@@ -21,10 +21,7 @@ others n l = go (le_or_lt (2 ^ n) l)
     go (inl h) = rw (ne_eqb (l % 2 ^ n) l (λ e. omega (arith, mod-lt l (pow_pos n))), le-leb (2 ^ n) l h)
     go (inr h) = rw (eq-eqb (l % 2 ^ n) l (mod-eq_of_lt h), lt-leb (2 ^ n) l h)
 
-returns : tie.Need-returns
+pub returns : goal.returns
 returns c =
-    let a = c.before.args in
+    let a = c.args in
     ap (λ k. not (eqb k a.list)) c.below.ensures ∙ others a.n a.list
-
-pub bit-beyond-spec : {M : Type 1} → statement M
-bit-beyond-spec = tie.close (tie.spec (λ c κs. search rules) returns)

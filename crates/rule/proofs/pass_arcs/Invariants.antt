@@ -1,0 +1,24 @@
+-- `rule::pass_arcs` meets its contract. The loop's invariant: up to some sender all were passed, and the arcs from there on are left.
+-- Assumes nothing.
+use borrow.Author.Rules.{rules}
+use native.Mathlib.Omega.{arith}
+use Prim.Native.Nat.{ℕ, ◌+◌, ◌%◌, ◌^◌, ◌<◌, ◌≤◌}
+use mathlib.Core.Path.{◌≡◌, sym, subst, ◌∙◌}
+use mathlib.Core.Bool.{true, false, ◌&&◌}
+use lib.Dec.{ltb}
+use lib.ListN.{length}
+use borrow.Author.Tests.{lt-ltb, ltb-true}
+use Rattle.ancestors.specs.Ancestors.{has, count}
+use Rattle.ancestors.proofs.Cases.{and_both}
+use Rattle.ancestors.proofs.Sets.{has_low}
+use Rattle.ancestors.proofs.Walk.{Rest, rest_all, rest_none, next_node, left_node}
+use Rattle.rule.specs.Passed.{Passed}
+use Rattle.rule.proofs.Least.{absent_pass}
+use Rattle.rule.proofs.pass_arcs.Given as goal
+
+abbrev pub invariant-loop-left : goal.invariant-loop-left
+invariant-loop-left l =
+    (j : ℕ) × Rest (l.arcs % 2 ^ l.n) l.left j × (l.left < 2 ^ 32) × (j ≤ l.n) × Passed l.arcs l.costs l.labels l.lists l.receiver j l.kept.most l.kept.from l.kept.last
+
+abbrev pub decreases-loop-left : goal.decreases-loop-left
+decreases-loop-left l = count (has l.left) 32

@@ -1,0 +1,10 @@
+-- `rule::total` meets its contract.
+-- Assumes nothing.
+use borrow.Author.Rules.{rules}
+use native.Mathlib.Omega.{arith}
+use Rattle.network.specs.Words.{cost_of}
+use Rattle.rule.proofs.total.Goals as goal
+
+pub returns : goal.returns
+unfolding cost_of
+returns c = omega (arith, c.wide.ensures, c.wide-2.ensures)
