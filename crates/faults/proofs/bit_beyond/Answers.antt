@@ -13,7 +13,6 @@ use borrow.Author.Tests.{eq-eqb, ne_eqb, le-leb, lt-leb}
 use Rattle.ancestors.proofs.Cases.{le_or_lt}
 use Rattle.faults.proofs.bit_beyond.Goals as goal
 
--- LOCAL
 others : (n l : ℕ) → not (eqb (l % 2 ^ n) l) ≡ leb (2 ^ n) l
 others n l = go (le_or_lt (2 ^ n) l)
   where

@@ -16,12 +16,10 @@ use Rattle.rule.specs.Passed.{Passed}
 use Rattle.rule.proofs.Least.{absent_pass}
 use Rattle.rule.proofs.pass_arcs.Goals as goal
 
--- LOCAL
 -- the bits of a word below n
 low_same : (w n i : ℕ) → i < n → has (w % 2 ^ n) i ≡ false → has w i ≡ false
 low_same w n i h e = let q : (ltb i n && has w i) ≡ false = sym (has_low w n i) ∙ e in rw (lt-ltb i n h) at q
 
--- LOCAL
 low-under : (w n i : ℕ) → has (w % 2 ^ n) i ≡ true → i < n
 low-under w n i e = ltb-true i n (and_both (ltb i n) (has w i) (sym (has_low w n i) ∙ e)).0
 

@@ -10,34 +10,23 @@ use Rattle.network.specs.Placing.{place_row_number}
 use Rattle.network.proofs.FaultLaws.{node_free}
 use Rattle.memory.specs.Layout.{view}
 use Rattle.memory.proofs.Store.{read_first}
-use Rattle.memory.proofs.row_number.Statement.{statement}
-use Rattle.memory.proofs.row_number.Tie as tie
+use Rattle.memory.proofs.row_number.Goals as goal
 
-returns : tie.Need-returns
+pub returns-then-n-node : goal.returns-then-n-node
 unfolding place_row_number node_fault
-returns c =
-    let a = c.before.before.args in
+returns-then-n-node c =
+    let a = c.args in
     let w = a.net.now in
     let h : (view w).nodes ≤ a.node = omega arith in
     rw (le-leb (view w).nodes a.node h)
 
-returns-2 : tie.Need-returns-2
+pub returns : goal.returns
 unfolding place_row_number
-returns-2 c =
-    let a = c.before.before.before.before.args in
+returns c =
+    let a = c.args in
     let w = a.net.now in
     let o = read_first w in
     let h : a.node < (view w).nodes = omega arith in
     rw (node_free (view w).nodes a.node h)
-    (c.row-fault.ensures ∙
-    (λ j. row_form_number (c.before.before.before.nodes.ensures j) (o j) a.node a.label a.predecessor a.list))
-
-pub row-number-spec : {M : Type 1} → statement M
-row-number-spec =
-    tie.close
-    (tie.spec
-    (λ c κs. search rules)
-    returns
-    (λ c. search rules)
-    (λ c κs. search rules)
-    returns-2)
+    (c.row_fault.ensures ∙
+    (λ j. row_form_number (c.nodes-n.ensures j) (o j) a.node a.label a.predecessor a.list))

@@ -15,12 +15,8 @@ use Rattle.network.proofs.Arcs.{arc_words_long, arc_words_at}
 use Rattle.memory.specs.Layout.{view}
 use Rattle.memory.proofs.Laws.{few}
 use Rattle.memory.proofs.ArcLaws.{arcs_none}
-use Rattle.memory.proofs.arc_words.Statement.{statement}
-use Rattle.memory.proofs.arc_words.Tie as tie
-
--- the arcs of the nodes below r, in their places, and nothing from r on
-abbrev Passed : Net → List ℕ → ℕ → Type 0
-Passed x words r = ((k : ℕ) → k < r → get_or words k 0 ≡ arcs_to x k) × ((k : ℕ) → r ≤ k → k < 32 → get_or words k 0 ≡ 0)
+use Rattle.memory.proofs.arc_words.Invariants.{Passed}
+use Rattle.memory.proofs.arc_words.Goals as goal
 
 passed_next : (x : Net) (words : List ℕ) (r w : ℕ) → r < length words → Passed x words r → w ≡ arcs_to x r → Passed x (set words r w) (r + 1)
 passed_next x words r w h p e =
@@ -38,51 +34,29 @@ passed_all xs words size p =
     go i u (inl b) = p.1 i b u ∙ sym (arcs_none xs i b)
     go i u (inr b) = p.0 i b
 
-abbrev invariant-loop : tie.invariant-loop
-invariant-loop net words₀ n r₀ words r = Passed (view net) words r × (length words ≡ 32) × (r ≤ n) × (n ≤ 32)
+pub loop-r-init : goal.loop-r-init
+loop-r-init c =
+    ((λ k h. absurd (omega arith), λ k _ u. get_or-replicate {A = ℕ} 32 k 0 0 u), length-replicate {A = ℕ} 32 0, omega arith, omega (arith, c.nodes-n.ensures, few c.args.net.now))
 
-abbrev decreases-loop : tie.decreases-loop
-decreases-loop net words₀ n r₀ words r = n - r
+pub arc_word-requires : goal.arc_word-requires
+arc_word-requires c = record {
+      n_value = c.nodes-n.ensures;
+      receiver_lt_max_nodes = omega (arith, c.nodes-n.ensures, few c.args.net.now);
+    }
 
-loop-holds : tie.Need-loop-init invariant-loop decreases-loop
-loop-holds c =
-    let n = c.before in
-    ((λ k h. absurd (omega arith), λ k _ u. get_or-replicate {A = ℕ} 32 k 0 0 u), length-replicate {A = ℕ} 32 0, omega arith, omega (arith, n.nodes.ensures, few n.before.args.net.now))
-
-arc-word-requires : tie.Need-arc-word-requires invariant-loop decreases-loop
-arc-word-requires c κs = let n = c.before.before.before in (n.nodes.ensures, omega (arith, n.nodes.ensures, few n.before.args.net.now))
-
-loop-again : tie.Need-loop-preserved invariant-loop decreases-loop
-loop-again c =
-    let l = c.before.before.loop in
-    let x = view c.before.before.before.before.before.args.net.now in (
-      passed_next x l.words l.r c.arc-word.result (omega (arith, l.invariant.1)) l.invariant.0 c.arc-word.ensures,
-      length-set l.words l.r c.arc-word.result ∙ l.invariant.1,
+pub loop-r-preserved : goal.loop-r-preserved
+loop-r-preserved c =
+    let l = c.loop-r in
+    let x = view c.args.net.now in (
+      passed_next x l.words l.r c.arc_word.result (omega (arith, l.invariant.1)) l.invariant.0 c.arc_word.ensures,
+      length-set l.words l.r c.arc_word.result ∙ l.invariant.1,
       omega arith,
       omega arith,
     )
 
-returns : tie.Need-returns invariant-loop decreases-loop
+pub returns : goal.returns
 returns c =
-    let l = c.before.loop in
-    let n = c.before.before.before in
-    let w = n.before.args.net.now in
-    let e : l.r ≡ (view w).nodes = omega (arith, n.nodes.ensures) in
+    let l = c.loop-r in
+    let w = c.args.net.now in
+    let e : l.r ≡ (view w).nodes = omega (arith, c.nodes-n.ensures) in
     passed_all w l.words l.invariant.1 (subst (Passed (view w) l.words) e l.invariant.0)
-
-pub arc-words-spec : {M : Type 1} → statement M
-arc-words-spec =
-    tie.close
-    (tie.spec
-    invariant-loop
-    decreases-loop
-    (λ c κs. search rules)
-    loop-holds
-    arc-word-requires
-    (λ c. omega arith)
-    (λ c. omega arith)
-    (λ c. omega arith)
-    (λ c. omega arith)
-    (λ c. omega arith)
-    loop-again
-    returns)
