@@ -21,11 +21,11 @@ pub returns-then-room-text-2 : goal.returns-then-room-text-2
 returns-then-room-text-2 c =
     let d = c.decimal-k in
     let a = c.args in
-    let e = d.ensures.1.1 ∙ digits_decimal _ _ d.ensures.1.0 in
-    put_none (omega (arith, length-append a.text.now (decimal a.n), ap length e, d.ensures.0.1))
+    let e = d.ensures.digits ∙ digits_decimal _ _ d.ensures.len in
+    put_none (omega (arith, length-append a.text.now (decimal a.n), ap length e, d.ensures.in_bounds.1))
 
 pub returns : goal.returns
 returns c =
     let d = c.decimal-k in
-    let e = d.ensures.1.1 ∙ digits_decimal _ _ d.ensures.1.0 in
-    puts_on (omega (arith, ap length e, d.ensures.0.1)) c.put_text-next.ensures (puts_as (sym e) c.put_text.ensures)
+    let e = d.ensures.digits ∙ digits_decimal _ _ d.ensures.len in
+    puts_on (omega (arith, ap length e, d.ensures.in_bounds.1)) c.put_text-next.ensures (puts_as (sym e) c.put_text.ensures)

@@ -16,10 +16,19 @@ returns-then-number-eq0 c =
     let a = c.args in
     put_empty a.out.now a.at (last_none a.number a.place c.if-number-eq0.true)
 
-pub shape_of-out : goal.shape_of-out
-shape_of-out c =
-    puts_within (puts_within (puts_within (omega arith) c.put_number-next.ensures) c.put_number-end.ensures) c.put_text.ensures
+pub slice_bounds-line-end : goal.slice_bounds-line-end
+slice_bounds-line-end c =
+    puts_within (puts_within (puts_within (omega arith) c.put_number-next.ensures) c.put_number-end.ensures) c.put_text-last.ensures
+
+pub slice_bounds-put_text-end-3 : goal.slice_bounds-put_text-end-3
+slice_bounds-put_text-end-3 c =
+    sym (length-take-le c.put_text-last.result c.put_text-last.new.out
+    (puts_within (puts_within (puts_within (omega arith) c.put_number-next.ensures) c.put_number-end.ensures) c.put_text-last.ensures))
 
 pub returns : goal.returns
+unfolding field stop_line
 returns c =
-    sym (length-take-le c.put_text.result c.put_text.new.1.0 (array-share-prefix-line c.before))
+    let n = puts_filled 28 (omega arith) (omega (arith, long_digits c.args.number (omega arith))) c.put_number-next.ensures in
+    let p = puts_filled 24 (filled_room 24 (omega arith) n) (omega (arith, long_digits c.args.place (omega arith))) c.put_number-end.ensures in
+    let l = puts_filled 1 (filled_room 1 (omega arith) (filled_on n p)) (omega arith) c.put_text-last.ensures in
+    puts_as (last_stop c.args.number c.args.place c.if-number-eq0.false ∙ sym (filled_front (filled_on n (filled_on p l)))) c.put_text.ensures

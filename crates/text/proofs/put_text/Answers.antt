@@ -11,7 +11,7 @@ returns-then-out-at c = put_none (omega arith)
 
 pub overflow_add-result : goal.overflow_add-result
 overflow_add-result c =
-    omega (arith, added_within (rest_added c.args.out.now c.args.at c.if-out-at.false c.copy.ensures), c.??well-formed)
+    omega (arith, added_within (rest_added c.args.out.now c.args.at c.if-out-at.false c.copy.ensures), c.well_formed)
 
 pub returns : goal.returns
 returns c =

@@ -1,0 +1,15 @@
+-- `routing::choose_row` meets its contract: the word of arcs and the parts lent are the words of one receiver.
+-- Assumes nothing.
+use borrow.Author.Rules.{rules}
+use native.Mathlib.Omega.{arith}
+use mathlib.Core.Path.{◌∙◌}
+use Rattle.routing.proofs.Renewing.{choose_words}
+use Rattle.routing.proofs.choose_row.Goals as goal
+
+pub returns : goal.returns
+returns c =
+    let a = c.args in
+    let p = c.requires in
+    let arcs = c.left_out-arcs in
+    c.choose.ensures
+    ∙ choose_words a.net.now p.net_len a.n a.receiver p.nodes.is p.node.below arcs.result arcs.ensures

@@ -1,0 +1,23 @@
+-- `routing::hear_few` meets its contract. The loop's invariant: the marks of the senders before some one are heard, and those from there on are left.
+-- Assumes nothing.
+use borrow.Author.Rules.{rules}
+use native.Mathlib.Omega.{arith}
+use Prim.Native.Nat.{ℕ, ◌+◌, ◌^◌, ◌<◌, ◌≤◌}
+use mathlib.Core.Path.{◌≡◌, refl, sym, subst, ◌∙◌}
+use mathlib.Core.Bool.{true, false}
+use lib.ListN.{length}
+use Rattle.ancestors.specs.Ancestors.{has, count}
+use Rattle.ancestors.proofs.Walk.{Rest, rest_all, rest_none, next_node, left_node}
+use Rattle.network.specs.Round.{hear}
+use Rattle.network.proofs.Arcs.{hear_ext}
+use Rattle.memory.specs.Layout.{word_count, view}
+use Rattle.routing.specs.Inner.{Hears, OnArc, row_marks}
+use Rattle.routing.proofs.Hearing.{hears_first, row_unmarked, row_gap, row_next, node_kept, bit_on}
+use Rattle.routing.proofs.hear_few.Given as goal
+
+abbrev pub invariant-loop-left : goal.invariant-loop-left
+invariant-loop-left l =
+    (j : ℕ) × Rest l.word l.left j × (l.left < 2 ^ 32) × (j ≤ 32) × Hears l.net (hear (row_marks l.receiver l.word j) (view l.initial.net)) × (length l.net ≡ word_count)
+
+abbrev pub decreases-loop-left : goal.decreases-loop-left
+decreases-loop-left l = count (has l.left) 32

@@ -1,0 +1,25 @@
+-- `routing::hear_fours` meets its contract. The loop's invariant: the marks of the senders passed are heard.
+-- Assumes nothing.
+use borrow.Author.Rules.{rules}
+use native.Mathlib.Omega.{arith}
+use Prim.Native.Nat.{ℕ, ◌+◌, ◌-◌, ◌/◌, ◌%◌, ◌^◌, ◌≤◌}
+use mathlib.Core.Path.{◌≡◌, sym, ap, subst, ◌∙◌}
+use mathlib.Core.Bool.{Bool}
+use lib.ListN.{length}
+use lib.Pow.{shr-shr}
+use Rattle.ancestors.specs.Ancestors.{has}
+use Rattle.ancestors.proofs.Sets.{has_shifted}
+use Rattle.network.specs.Round.{hear}
+use Rattle.network.proofs.Arcs.{hear_ext}
+use Rattle.memory.specs.Layout.{word_count, view}
+use Rattle.routing.specs.Inner.{Hears, OnArc, row_marks}
+use Rattle.routing.proofs.Marks.{beyond}
+use Rattle.routing.proofs.Hearing.{hears_first, row_unmarked, row_next, row_rest, node_kept, bit_on}
+use Rattle.routing.proofs.hear_fours.Given as goal
+
+abbrev pub invariant-loop-s : goal.invariant-loop-s
+invariant-loop-s l =
+    Hears l.net (hear (row_marks l.receiver l.word l.s) (view l.initial.net)) × (length l.net ≡ word_count) × (l.s ≤ 32) × (l.s % 4 ≡ 0) × (l.bits ≡ l.word / 2 ^ l.s)
+
+abbrev pub decreases-loop-s : goal.decreases-loop-s
+decreases-loop-s l = l.n - l.s
