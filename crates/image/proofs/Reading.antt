@@ -42,12 +42,12 @@ neither false = refl
 
 module _ (x : Net) (y : ℕ) where
   -- no node, no route, or the origin
-  pub row_none : (r : RowRead) → row_means r ≡ read_row x y → OneOf (0 ∷ 1 ∷ 2 ∷ []) (tag_of row_read.the_type r) → row_at x y ≡ []
+  pub row_none : (r : RowRead) → row_means r ≡ read_row x y → ((d p l s : ℕ) → r ≡ R.Route d p l s → ⊥) → row_at x y ≡ []
   unfolding row_at row_bytes
   row_none R.Refused said h = rw (said_refused x y _ said refl)
   row_none R.NoRoute said h = let a = said_none x y _ said refl in rw (a.0, a.1)
   row_none (R.Origin l s) said h = let a = said_origin x y _ said refl in rw (a.0, a.1)
-  row_none (R.Route d p l s) said h = absurd (⊎_elim (λ e. omega arith) (λ g. ⊎_elim (λ e. omega arith) (λ e. omega arith) g) h)
+  row_none (R.Route d p l s) said h = absurd (h d p l s refl)
 
   -- a relay with a route
   pub row_some : (r : RowRead) → row_means r ≡ read_row x y → {d p l s : ℕ} → r ≡ R.Route d p l s → row_at x y ≡ row_record_of y d p l

@@ -1,0 +1,53 @@
+-- `image::counted_length` meets its contract. The loop's invariant: the first and the last record, and the bytes of the receivers passed.
+-- Assumes nothing.
+use native.Mathlib.Omega.{arith}
+use Prim.Native.Nat.{◌+◌, ◌-◌, ◌≤◌}
+use mathlib.Core.Path.{◌≡◌, refl, ap}
+use Rattle.memory.specs.Layout.{view}
+use Rattle.memory.proofs.Laws.{few}
+use Rattle.records.specs.Records.{body_length, record_length}
+use Rattle.image.specs.Measured.{sum, receiver_bytes}
+use Rattle.image.proofs.Sums.{sum_zero, sum_next, sum_most}
+use Rattle.image.proofs.Reading.{word_of}
+use Rattle.image.proofs.Receivers.{most_receiver, receiver_most}
+use Rattle.image.proofs.Parting.{image_counted}
+use Rattle.image.proofs.counted_length.Goals as goal
+
+pub loop-r-init : goal.loop-r-init
+unfolding body_length
+loop-r-init c = (omega (arith, sum_zero (receiver_bytes (view c.args.net.now))), omega arith)
+
+pub bounds-arcs-r : goal.bounds-arcs-r
+bounds-arcs-r c =
+    omega (arith, c.nodes-n.ensures, few c.args.net.now)
+
+pub receiver_length-total-requires : goal.receiver_length-total-requires
+receiver_length-total-requires c =
+    let a = c.args in
+    word_of a.net.now a.arcs.now _ c.requires (omega (arith, c.nodes-n.ensures))
+
+pub overflow_add-total : goal.overflow_add-total
+unfolding body_length
+overflow_add-total c =
+    let l = c.loop-r in
+    let w = c.args.net.now in
+    let f = receiver_bytes (view w) in
+    let sofar = sum_most f most_receiver l.r (receiver_most (view w)) in
+    omega (arith, l.invariant.0, l.invariant.1, c.nodes-n.ensures, few w, sofar, c.receiver_length-total.ensures, receiver_most (view w) l.r)
+
+pub loop-r-preserved : goal.loop-r-preserved
+loop-r-preserved c =
+    let l = c.loop-r in
+    let w = c.args.net.now in
+    (omega (arith, l.invariant.0, c.receiver_length-total.ensures, sum_next (receiver_bytes (view w)) l.r), omega arith)
+
+pub returns : goal.returns
+returns c =
+    let l = c.loop-r in
+    let w = c.args.net.now in
+    let whole = image_counted (view w) c.nodes-n.result _ c.nodes-n.ensures refl (few w) in
+    let e : l.r ≡ c.nodes-n.result = omega arith in
+    omega (arith, l.invariant.0, whole, ap (sum (receiver_bytes (view w))) e)
+
+pub nodes-n-requires : goal.nodes-n-requires
+nodes-n-requires c = tt

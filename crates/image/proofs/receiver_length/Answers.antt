@@ -1,0 +1,34 @@
+-- `image::receiver_length` meets its contract: its row, and what is counted of arcs and reports.
+-- Assumes nothing.
+use borrow.Author.Rules.{rules}
+use native.Mathlib.Omega.{arith}
+use mathlib.Core.Path.{ap, ◌∙◌}
+use Rattle.ancestors.specs.Ancestors.{has, count}
+use Rattle.network.specs.Faults.{max_nodes}
+use Rattle.memory.specs.Layout.{view}
+use Rattle.records.specs.Records.{body_length}
+use Rattle.image.specs.Measured.{holds}
+use Rattle.image.proofs.Lengths.{row_at_most}
+use Rattle.image.proofs.Receivers.{receiver_counts}
+use Rattle.image.proofs.receiver_length.Goals as goal
+
+pub overflow_add-result : goal.overflow_add-result
+unfolding body_length
+overflow_add-result c =
+    let a = c.args in
+    omega (arith, c.row_length.ensures, row_at_most (view a.net.now) a.r)
+
+pub overflow_add-result-2 : goal.overflow_add-result-2
+unfolding body_length
+overflow_add-result-2 c =
+    let a = c.args in
+    omega (arith, c.row_length.ensures, row_at_most (view a.net.now) a.r)
+
+pub returns : goal.returns
+unfolding body_length
+returns c =
+    let a = c.args in
+    let w = a.net.now in
+    let arcs = c.count_nodes.ensures ∙ ap (λ l. count (has l) max_nodes) c.requires in
+    let reports = c.held_count.ensures ∙ ap (λ l. count (holds w l a.r) max_nodes) c.requires in
+    omega (arith, c.row_length.ensures, arcs, reports, receiver_counts w a.r)
