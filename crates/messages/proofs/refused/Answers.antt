@@ -2,12 +2,8 @@
 -- Assumes nothing.
 use mathlib.Core.Path.{refl}
 use Rattle.response.specs.Reading.{places}
-use Rattle.messages.proofs.refused.Statement.{statement}
-use Rattle.messages.proofs.refused.Tie as tie
+use Rattle.messages.proofs.refused.Goals as goal
 
-returns : tie.Need-returns
+pub returns : goal.returns
 unfolding places
 returns c = record { number = refl; nodes = refl; metrics = refl }
-
-pub refused-spec : {M : Type 1} → statement M
-refused-spec = tie.close (tie.spec returns)
