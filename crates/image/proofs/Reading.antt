@@ -9,8 +9,6 @@ use native.Mathlib.Omega.{arith}
 use borrow.Author.Tests.{eq-eqb, ne_eqb, eqb-true, eqb-false}
 use lib.Dec.{eqb}
 use lib.ListN.{length, get_or}
-use types.Run.{OneOf}
-use denote.Enum.Declared.{tag_of}
 use Rattle.ancestors.specs.Ancestors.{has, one}
 use Rattle.ancestors.proofs.Cases.{bool_cases}
 use Rattle.network.specs.Faults.{max_nodes, pair_fault_of}
@@ -24,7 +22,6 @@ use Rattle.memory.specs.Layout.{view, cost_word_of, held_label_word_of, held_lis
 use Rattle.memory.specs.Answers.{read_row, row_means}
 use Rattle.memory.specs.declared.RowRead.{RowRead}
 use Rattle.memory.specs.declared.RowRead.TheVariants as R
-use Rattle.memory.specs.contracts.RowRead as row_read
 use Rattle.memory.proofs.Laws.{few, said_refused, said_none, said_origin, said_route}
 use Rattle.memory.proofs.ArcLaws.{arc_pair, arc_cost, arc_held, no_cost, no_report}
 use Rattle.records.specs.Records.{record_length, arc_record_of, row_record_of, report_record_of}

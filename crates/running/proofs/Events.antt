@@ -4,8 +4,6 @@ use mathlib.Core.Path.{◌≡◌, refl, sym, ap, subst, ◌∙◌}
 use mathlib.Core.List.{List, [], ◌∷◌}
 use Prim.Native.Nat.{ℕ, ◌≤◌}
 use native.Mathlib.Omega.{arith}
-use types.Run.{OneOf, miss}
-use denote.Enum.Declared.{tag_of}
 use Rattle.network.specs.Network.{Net, outcome}
 use Rattle.network.specs.Change.{change_of}
 use Rattle.network.specs.Round.{round_of, full_round_of}
@@ -17,7 +15,6 @@ use Rattle.records.specs.Running.{event_done, rounds_in}
 use Rattle.records.specs.declared.ArcChange.{ArcChange}
 use Rattle.records.specs.declared.ArcChange.TheVariants.{Set, Removed}
 use Rattle.records.specs.declared.Event.{Event}
-use Rattle.records.specs.contracts.Event.{the_type}
 use Rattle.records.specs.declared.Event.TheVariants.{End, Header, Change, Row, Report, Round, FullRound, Refusal}
 
 -- a call that answers k and leaves the words
@@ -94,20 +91,18 @@ module _ (b : List ℕ) {xs : List ℕ} {e : Event} where
   unfolding event_done rounds_in
   does_refusal {k} {p} q = does (Refusal k p) 0 q (still k xs) refl
 
--- what an image alone has, by the positions of its variants
-abbrev pub image_only : List ℕ
-image_only = 0 ∷ 1 ∷ 3 ∷ 4 ∷ []
-
-pub does_other : (b xs : List ℕ) (e : Event) → OneOf image_only (tag_of the_type e) → Does xs b e 2 0 xs
+-- what an image alone has
+pub does_other : (b xs : List ℕ) (e : Event) → ((a : ArcChange) → e ≡ Change a → ⊥) → (e ≡ Round → ⊥) → (e ≡ FullRound → ⊥) →
+    ((k p : ℕ) → e ≡ Refusal k p → ⊥) → Does xs b e 2 0 xs
 unfolding event_done rounds_in
-does_other b xs End h = (still 2 xs, refl)
-does_other b xs (Header n o) h = (still 2 xs, refl)
-does_other b xs (Row y d p l) h = (still 2 xs, refl)
-does_other b xs (Report s r d l) h = (still 2 xs, refl)
-does_other b xs (Change a) h = absurd (miss image_only 2 tt h)
-does_other b xs Round h = absurd (miss image_only 5 tt h)
-does_other b xs FullRound h = absurd (miss image_only 6 tt h)
-does_other b xs (Refusal e p) h = absurd (miss image_only 7 tt h)
+does_other b xs End change round full refusal = (still 2 xs, refl)
+does_other b xs (Header n o) change round full refusal = (still 2 xs, refl)
+does_other b xs (Row y d p l) change round full refusal = (still 2 xs, refl)
+does_other b xs (Report s r d l) change round full refusal = (still 2 xs, refl)
+does_other b xs (Change a) change round full refusal = absurd (change a refl)
+does_other b xs Round change round full refusal = absurd (round refl)
+does_other b xs FullRound change round full refusal = absurd (full refl)
+does_other b xs (Refusal k p) change round full refusal = absurd (refusal k p refl)
 
 -- a round from its marks
 pub marks_round : (b : List ℕ) {xs ms ys : List ℕ} {k : ℕ} → ms ≡ words_in 32 b → Leaves (round_of (view xs) ms) k xs ys

@@ -7,11 +7,11 @@ use Prim.Native.Nat.{◌+◌, ◌-◌, ◌≤◌}
 use lib.ListN.{length, take, drop}
 use Rattle.records.specs.Records.{body_length, body_of}
 use Rattle.running.proofs.Events.{does_full_round, does_round, does_change, does_refusal, does_other}
-use Rattle.running.proofs.do_event.Goals.{After-mark_round-arg-1}
+use Rattle.running.proofs.do_event.Goals.{In-Round}
 use Rattle.running.proofs.do_event.Goals as goal
 
 -- a round's record lies inside the input
-inside : (c : After-mark_round-arg-1) → c.args.at + 129 ≤ length c.args.input.now
+inside : (c : In-Round) → c.args.at + 129 ≤ length c.args.input.now
 unfolding body_length
 inside c = c.requires c.in-Round.is
 
@@ -32,13 +32,15 @@ pub returns-in-Refusal : goal.returns-in-Refusal
 returns-in-Refusal c = does_refusal _ c.in-Refusal.is
 
 pub returns-in_default : goal.returns-in_default
-returns-in_default c = does_other _ _ c.args.event c.in_default.keys5
+returns-in_default c =
+    let d = c.in_default in
+    does_other _ _ c.args.event d.not-Change d.not-Round d.not-FullRound d.not-Refusal
 
 pub overflow_add-at : goal.overflow_add-at
-overflow_add-at c = omega (arith, inside (goal.at.overflow_add-at c).After-mark_round-arg-1)
+overflow_add-at c = omega (arith, inside (goal.at.overflow_add-at c).In-Round)
 
 pub overflow_add-at-in-Round : goal.overflow_add-at-in-Round
-overflow_add-at-in-Round c = omega (arith, inside (goal.at.overflow_add-at-in-Round c).After-mark_round-arg-1)
+overflow_add-at-in-Round c = omega (arith, inside (goal.at.overflow_add-at-in-Round c).In-Round)
 
 pub slice_bounds-mark_round-end : goal.slice_bounds-mark_round-end
-slice_bounds-mark_round-end c = inside (goal.at.slice_bounds-mark_round-end c).After-mark_round-arg-1
+slice_bounds-mark_round-end c = inside (goal.at.slice_bounds-mark_round-end c).In-Round

@@ -7,7 +7,7 @@ use lib.ListN.{length}
 use Rattle.memory.specs.Layout.{view}
 use Rattle.running.specs.Inner.{events_from}
 use Rattle.running.proofs.Loop.{Rest, begin, round_at, at_end_lem, at_stop, at_next}
-use Rattle.running.proofs.run_events.Goals.{After-struct_known-in-loop-at-1}
+use Rattle.running.proofs.run_events.Goals.{Else-done-ne0}
 use Rattle.running.proofs.run_events.Goals as goal
 
 pub loop-at-init : goal.loop-at-init
@@ -25,31 +25,31 @@ returns-then-done-ne0 c =
     c.do_event-done.ensures c.if-done-ne0.true
 
 -- after an accepted event: the rest, and a record that has a byte and lies inside the input
-abbrev GoesOn : tie.After-struct-known2 invariant-loop decreases-loop → Type 0
+abbrev GoesOn : Else-done-ne0 → Type 0
 GoesOn c =
-    let a = c.before.before.before.before.before.before.before.before.before.args in
-    let l = c.before.before.before.before.before.before.before.loop in
-    let r = c.before.before.before.before.before.event-record.result in
-    let d = c.before.before.before.do-event in
-    Rest a.input.now (events_from a.input.now (view a.net.now) a.start) (view d.new.0) (l.rounds + d.result.rounds) (l.at + r.used)
+    let a = c.args in
+    let l = c.loop-at in
+    let r = c.event_record-record.result in
+    let d = c.do_event-done in
+    Rest a.input.now (events_from a.input.now (view a.net.now) a.start) (view d.new.net) (l.rounds + d.result.rounds) (l.at + r.used)
     × (0 < r.used) × (l.at + r.used ≤ length a.input.now)
 
-goes_on : (c : After-struct_known-in-loop-at-1) → GoesOn c
+goes_on : (c : Else-done-ne0) → GoesOn c
 goes_on c =
     at_next c.loop-at.invariant (omega arith) c.event_record-record.ensures
     c.do_event-done.ensures c.if-done-ne0.false
 
 pub overflow_add-rounds : goal.overflow_add-rounds
-overflow_add-rounds c = omega (arith, (goes_on (goal.at.overflow_add-rounds c).After-struct_known-in-loop-at-1).0.few, (goes_on (goal.at.overflow_add-rounds c).After-struct_known-in-loop-at-1).2)
+overflow_add-rounds c = omega (arith, (goes_on (goal.at.overflow_add-rounds c).Else-done-ne0).0.few, (goes_on (goal.at.overflow_add-rounds c).Else-done-ne0).2)
 
 pub overflow_add-at : goal.overflow_add-at
-overflow_add-at c = omega (arith, (goes_on (goal.at.overflow_add-at c).After-struct_known-in-loop-at-1).2, c.well_formed.1.0.0)
+overflow_add-at c = omega (arith, (goes_on (goal.at.overflow_add-at c).Else-done-ne0).2, c.well_formed.1.0.0)
 
 pub loop-at-smaller : goal.loop-at-smaller
-loop-at-smaller c = omega (arith, (goes_on (goal.at.loop-at-smaller c).After-struct_known-in-loop-at-1).1, (goes_on (goal.at.loop-at-smaller c).After-struct_known-in-loop-at-1).2)
+loop-at-smaller c = omega (arith, (goes_on (goal.at.loop-at-smaller c).Else-done-ne0).1, (goes_on (goal.at.loop-at-smaller c).Else-done-ne0).2)
 
 pub loop-at-preserved : goal.loop-at-preserved
-loop-at-preserved c = (goes_on (goal.at.loop-at-preserved c).After-struct_known-in-loop-at-1).0
+loop-at-preserved c = (goes_on (goal.at.loop-at-preserved c).Else-done-ne0).0
 
 pub returns : goal.returns
 returns c = at_end_lem c.loop-at.invariant (omega arith)
