@@ -3,23 +3,29 @@
 // `input` reads, and `table` makes what is printed.
 #![tactic(auto)]
 
-use libc::STDOUT_FILENO;
+use std::io;
+use std::io::Write;
 
 // One byte more than the longest input, so that a longer one is known without reading all of it.
 const ROOM: usize = text::MAX_INPUT + 1;
 
-fn main() {
-    let mut room = [0u8; ROOM];
-    let input = input::read_all(&mut room);
-    if input.failed {
-        os::fail(b"routes: standard input");
-        return;
-    }
-    let end = input.bytes;
+// What failed, on standard error; if that fails too, nothing is left to say.
+fn fail(rt: &HostRuntime, what: &str, error: io::Error) {
+    let _said = eprintln!(rt; "routes: {what}: {error}");
+}
+
+fn print_table(rt: &HostRuntime, run: &[u8]) {
     let mut text = [0u8; table::MAX_TEXT];
-    let n = table::write_text(&room[..end], &mut text);
-    let is_written = io::write_all(STDOUT_FILENO, &text[..n]);
-    if !is_written {
-        os::fail(b"routes: standard output");
+    let n = table::write_text(run, &mut text);
+    if let Err(error) = rt.stdout().write_all(&text[..n]) {
+        fail(rt, "standard output", error);
+    }
+}
+
+fn main(rt: HostRuntime) {
+    let mut room = [0u8; ROOM];
+    match input::read_all(&mut rt.stdin(), &mut room) {
+        Ok(end) => print_table(&rt, &room[..end]),
+        Err(error) => fail(&rt, "standard input", error),
     }
 }

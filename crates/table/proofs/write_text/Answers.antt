@@ -6,20 +6,14 @@ use Rattle.filling.proofs.Parts.{wrote_as}
 use Rattle.filling.proofs.Copying.{wrote_all}
 use Rattle.text.specs.Text.{max_input, too_long}
 use Rattle.table.proofs.Texts.{text_long}
-use Rattle.table.proofs.write_text.Statement.{statement}
-use Rattle.table.proofs.write_text.Tie as tie
+use Rattle.table.proofs.write_text.Goals as goal
 
-returns : tie.Need-returns
+pub returns-then-input-gt-MAX_INPUT : goal.returns-then-input-gt-MAX_INPUT
 unfolding max_input too_long
-returns c =
-    let test = c.before.before in
-    let a = test.before.before.before.args in
+returns-then-input-gt-MAX_INPUT c =
+    let a = c.args in
     wrote_as (text_long a.input.now (omega arith)) (wrote_all _ a.out.now (omega arith) c.copy.ensures)
 
-put-run-requires : tie.Need-put-run-requires
+pub put_run-requires : goal.put_run-requires
 unfolding max_input
-put-run-requires c κs = omega arith
-
-pub write-text-spec : {M : Type 1} → statement M
-write-text-spec =
-    tie.close (tie.spec (λ c. search rules) (λ c κs. search rules) returns put-run-requires (λ c. search rules))
+put_run-requires c = omega arith
