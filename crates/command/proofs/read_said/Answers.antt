@@ -9,7 +9,7 @@ pub returns-then-read-ne0 : goal.returns-then-read-ne0
 returns-then-read-ne0 c =
     let read = c.read_messages-read in
     let a = c.args in
-    says_error (read_stops a.base a.n a.input.now read.result read.ensures c.if-read-ne0.true) c.??Put-refused.ensures c.said_of.ensures
+    says_error (read_stops a.base a.n a.input.now read.result read.ensures c.if-read-ne0.true) c.put_refused.ensures c.said_of.ensures
 
 pub put_metrics-requires : goal.put_metrics-requires
 put_metrics-requires c =

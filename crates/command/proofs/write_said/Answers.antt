@@ -11,7 +11,7 @@ use Rattle.command.proofs.write_said.Goals as goal
 pub returns-then-base_refused : goal.returns-then-base_refused
 returns-then-base_refused c =
     let a = c.args in
-    says_error (write_refused a.base a.input.now (sym c.base_refused.ensures ∙ c.if-base_refused.true)) c.??Put-refused.ensures
+    says_error (write_refused a.base a.input.now (sym c.base_refused.ensures ∙ c.if-base_refused.true)) c.put_refused.ensures
     c.said_of.ensures
 
 pub returns-then-input-gt-MAX_INPUT : goal.returns-then-input-gt-MAX_INPUT
