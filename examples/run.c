@@ -7,7 +7,7 @@
  * where no IMAGE is given. Exit status: 0 accepted; 1 refused, with number, meaning and place on standard error; 2 a file or memory fails.
  *
  * To build it, from the root of the repository:
- *     rt staticlib firmware
+ *     ./build firmware
  *     gcc -std=c11 -Wall -Wextra -pedantic -Iinclude examples/run.c target/staticlib/libfirmware.a -o run
  */
 #include <errno.h>

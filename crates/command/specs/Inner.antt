@@ -1,6 +1,6 @@
 -- What private functions give.
 -- Assumes nothing.
-use Rattle.std.specs.Prelude.{◌≡◌, Bool, ℕ, ◌-◌}
+use Rattle.std.specs.Prelude.{◌≡◌, Bool, ℕ}
 use Rattle.command.specs.declared.Said.{Said}
 
 -- r holds these

@@ -11,7 +11,7 @@ use borrow.Author.Tests.{eq-eqb, ne_eqb, lt-ltb}
 use Rattle.ancestors.specs.Ancestors.{own, hops}
 use Rattle.ancestors.proofs.Cases.{never, eqb_same}
 use Rattle.network.specs.Faults.{max_nodes, node_fault, pair_fault_of}
-use Rattle.network.specs.Network.{Row, none, root, via, Report, empty, told, Net, outcome}
+use Rattle.network.specs.Network.{Row, none, root, via, empty, told, Net, outcome}
 use Rattle.network.proofs.FaultLaws.{node_free}
 use Rattle.network.proofs.Effects.{outcome_number, refused_net, accepted_net}
 use Rattle.memory.specs.Layout.{word, row_of, node_row, net_of, frame_in, look, view, list_word_of, row_labels, row_predecessors, row_lists}

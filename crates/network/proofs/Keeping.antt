@@ -6,7 +6,6 @@ use mathlib.Core.Logic.{◌⊎◌, inl, inr, ◌≢◌}
 use mathlib.Core.List.{List}
 use Prim.Native.Nat.{ℕ, ◌<◌, ◌≤◌}
 use native.Mathlib.Omega.{arith}
-use Rattle.ancestors.specs.Ancestors.{own}
 use Rattle.ancestors.proofs.Cases.{eq_or_ne}
 use Rattle.network.specs.Faults.{max_cost, size_fault, node_fault, pair_fault_of, row_fault_of, report_fault_of}
 use Rattle.network.specs.Network.{root, via, told, Net, Within, outcome, fresh_net, fresh_number, fresh_of, with_row, with_held}

@@ -1,6 +1,6 @@
 -- A node has at most one settled row, with a route exactly where a walk leads.
 -- Assumes nothing.
-use mathlib.Core.Path.{◌≡◌, refl, sym, ap, ap₂, subst}
+use mathlib.Core.Path.{◌≡◌, refl, sym, ap₂, subst}
 use Prim.Native.Nat.{ℕ}
 use native.Mathlib.Omega.{arith}
 use Rattle.ancestors.specs.Ancestors.{put}

@@ -1,6 +1,5 @@
 -- `ancestors::count_hops` meets its contract: hops are the listed nodes less one, and a list that is not 0 has a node.
 -- Assumes nothing.
-use borrow.Author.Rules.{rules}
 use native.Mathlib.Omega.{arith}
 use lib.Count.{ones}
 use Rattle.ancestors.specs.Ancestors.{hops}

@@ -1,6 +1,5 @@
 -- `ancestors::joined` meets its contract: a shifted one or-ed in.
 -- Assumes nothing.
-use native.Mathlib.Omega.{arith}
 use borrow.Author.Tests.{lt-ltb, le-ltb}
 use Rattle.ancestors.proofs.Words.{code_put}
 use Rattle.ancestors.proofs.joined.Goals as goal

@@ -1,6 +1,5 @@
 -- `ancestors::left_out` meets its contract: the bits shared with a shifted one are taken out.
 -- Assumes nothing.
-use native.Mathlib.Omega.{arith}
 use borrow.Author.Tests.{lt-ltb, le-ltb}
 use Rattle.ancestors.proofs.Words.{code_cut}
 use Rattle.ancestors.proofs.left_out.Goals as goal

@@ -1,7 +1,6 @@
 -- `ancestors::listed` meets its contract: the bit is read by a shift, and a list has no bit above 31.
 -- Assumes nothing.
 use mathlib.Core.Path.{sym}
-use native.Mathlib.Omega.{arith}
 use Rattle.ancestors.proofs.Laws.{has_beyond}
 use Rattle.ancestors.proofs.Words.{code_has}
 use Rattle.ancestors.proofs.listed.Goals as goal

@@ -1,9 +1,7 @@
 -- `arguments::dot_from` meets its contract. The loop's invariant: no dot was passed.
 -- Assumes nothing.
 use native.Mathlib.Omega.{arith}
-use Prim.Native.Nat.{◌-◌}
-use lib.ListN.{length}
-use Rattle.arguments.proofs.Dots.{Passed, passed_none, passed_next, passed_dot, passed_end}
+use Rattle.arguments.proofs.Dots.{passed_none, passed_next, passed_dot, passed_end}
 use Rattle.arguments.proofs.dot_from.Goals as goal
 
 pub loop-at-init : goal.loop-at-init

@@ -1,9 +1,8 @@
 -- `arguments::dot_from` meets its contract. The loop's invariant: no dot was passed.
 -- Assumes nothing.
-use native.Mathlib.Omega.{arith}
 use Prim.Native.Nat.{◌-◌}
 use lib.ListN.{length}
-use Rattle.arguments.proofs.Dots.{Passed, passed_none, passed_next, passed_dot, passed_end}
+use Rattle.arguments.proofs.Dots.{Passed}
 use Rattle.arguments.proofs.dot_from.Given as goal
 
 abbrev pub invariant-loop-at : goal.invariant-loop-at

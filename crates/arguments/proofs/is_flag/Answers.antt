@@ -1,6 +1,5 @@
 -- `arguments::is_flag` meets its contract: the length, then each byte decides.
 -- Assumes nothing.
-use borrow.Author.Rules.{rules}
 use mathlib.Core.Path.{sym}
 use Rattle.arguments.proofs.Counting.{flag_long, flag_first, flag_second}
 use Rattle.arguments.proofs.is_flag.Goals as goal

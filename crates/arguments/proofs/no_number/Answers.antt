@@ -1,6 +1,5 @@
 -- `arguments::no_number` meets its contract: none, one or more bytes.
 -- Assumes nothing.
-use borrow.Author.Rules.{rules}
 use native.Mathlib.Omega.{arith}
 use mathlib.Core.Path.{sym}
 use Rattle.arguments.proofs.Counting.{number_empty, number_one, number_more}

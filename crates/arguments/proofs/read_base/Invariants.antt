@@ -1,14 +1,9 @@
 -- `arguments::read_base` meets its contract. The loop's invariant: the numbers passed stand for base, and the others begin at a place.
 -- Assumes nothing.
-use borrow.Author.Rules.{rules}
-use native.Mathlib.Omega.{arith}
-use Prim.Native.Nat.{ℕ, suc, ◌+◌, ◌-◌, ◌^◌, ◌<◌, ◌≤◌}
-use mathlib.Core.Path.{◌≡◌, refl, sym, ap, ◌∙◌}
-use mathlib.Core.List.{List}
-use lib.ListN.{length, take, drop, length-drop}
-use lib.Seq.{take_all}
+use Prim.Native.Nat.{◌-◌, ◌^◌, ◌<◌, ◌≤◌}
+use mathlib.Core.Path.{◌≡◌}
+use lib.ListN.{length, drop}
 use Rattle.arguments.specs.Arguments.{bytes_after, read_base_of}
-use Rattle.arguments.proofs.Dots.{bytes_unreadable, bytes_large, bytes_next, bytes_short, last_unreadable, last_large, last_byte, three_bytes, next_byte}
 use Rattle.arguments.proofs.read_base.Given as goal
 
 abbrev pub invariant-loop-k : goal.invariant-loop-k

@@ -2,10 +2,8 @@
 -- Assumes nothing.
 use borrow.Author.Rules.{rules}
 use native.Mathlib.Omega.{arith}
-use Prim.Native.Nat.{◌-◌, ◌≤◌}
-use mathlib.Core.Path.{◌≡◌, sym, ◌∙◌}
-use lib.ListN.{length, get_or, drop}
-use Rattle.arguments.specs.Arguments.{digits_after, read_count_of}
+use mathlib.Core.Path.{sym, ◌∙◌}
+use lib.ListN.{get_or}
 use Rattle.arguments.proofs.Counting.{digit_right, digit_low, digit_high, digits_end, digits_next, digits_wrong, count_none, count_digits}
 use Rattle.arguments.proofs.read_count.Goals as goal
 

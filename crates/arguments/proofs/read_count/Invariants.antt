@@ -1,12 +1,9 @@
 -- `arguments::read_count` meets its contract. The loop's invariant: the digits passed stand for n.
 -- Assumes nothing.
-use borrow.Author.Rules.{rules}
-use native.Mathlib.Omega.{arith}
 use Prim.Native.Nat.{◌-◌, ◌≤◌}
-use mathlib.Core.Path.{◌≡◌, sym, ◌∙◌}
-use lib.ListN.{length, get_or, drop}
+use mathlib.Core.Path.{◌≡◌}
+use lib.ListN.{length, drop}
 use Rattle.arguments.specs.Arguments.{digits_after, read_count_of}
-use Rattle.arguments.proofs.Counting.{digit_right, digit_low, digit_high, digits_end, digits_next, digits_wrong, count_none, count_digits}
 use Rattle.arguments.proofs.read_count.Given as goal
 
 abbrev pub invariant-loop-i : goal.invariant-loop-i

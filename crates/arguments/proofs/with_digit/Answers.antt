@@ -1,6 +1,5 @@
 -- `arguments::with_digit` meets its contract: within 32 bits or not.
 -- Assumes nothing.
-use borrow.Author.Rules.{rules}
 use mathlib.Core.Path.{sym}
 use Rattle.arguments.proofs.Counting.{capped_small, capped_large}
 use Rattle.arguments.proofs.with_digit.Goals as goal

@@ -1,6 +1,5 @@
 -- `bench::arcs_words` meets its contract: number and word.
 -- Assumes nothing.
-use borrow.Author.Rules.{rules}
 use mathlib.Core.Path.{sym, ap}
 use Rattle.memory.proofs.Laws.{arcs_means_lem}
 use Rattle.bench.specs.Handed.{arcs_words_of}

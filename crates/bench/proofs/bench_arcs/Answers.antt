@@ -1,6 +1,5 @@
 -- `bench::bench_arcs` meets its contract: a word of arcs in two words.
 -- Assumes nothing.
-use borrow.Author.Rules.{rules}
 use mathlib.Core.Path.{ap, ◌∙◌}
 use Rattle.bench.specs.Handed.{arcs_words_of}
 use Rattle.bench.proofs.bench_arcs.Goals as goal

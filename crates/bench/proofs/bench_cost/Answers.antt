@@ -1,6 +1,5 @@
 -- `bench::bench_cost` meets its contract: a cost in two words.
 -- Assumes nothing.
-use borrow.Author.Rules.{rules}
 use mathlib.Core.Path.{ap, ◌∙◌}
 use Rattle.bench.specs.Handed.{cost_words_of}
 use Rattle.bench.proofs.bench_cost.Goals as goal

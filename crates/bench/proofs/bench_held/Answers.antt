@@ -1,6 +1,5 @@
 -- `bench::bench_held` meets its contract: a held report in three words.
 -- Assumes nothing.
-use borrow.Author.Rules.{rules}
 use mathlib.Core.Path.{ap, ◌∙◌}
 use Rattle.bench.specs.Handed.{held_words_of}
 use Rattle.bench.proofs.bench_held.Goals as goal

@@ -1,6 +1,5 @@
 -- `bench::bench_read_messages` meets its contract: number, nodes and metrics in 34 words.
 -- Assumes nothing.
-use borrow.Author.Rules.{rules}
 use mathlib.Core.Path.{◌∙◌}
 use Rattle.bench.specs.Handed.{read_words}
 use Rattle.bench.proofs.bench_read_messages.Goals as goal

@@ -1,6 +1,5 @@
 -- `bench::bench_route` meets its contract: the answer in two words.
 -- Assumes nothing.
-use borrow.Author.Rules.{rules}
 use native.Mathlib.Omega.{arith}
 use mathlib.Core.Path.{◌∙◌}
 use lib.ListN.{length-set}

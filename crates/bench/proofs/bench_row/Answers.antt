@@ -1,6 +1,5 @@
 -- `bench::bench_row` meets its contract: a row in five words.
 -- Assumes nothing.
-use borrow.Author.Rules.{rules}
 use mathlib.Core.Path.{ap, ◌∙◌}
 use Rattle.bench.specs.Handed.{row_words_of}
 use Rattle.bench.proofs.bench_row.Goals as goal

@@ -1,6 +1,5 @@
 -- `bench::cost_words` meets its contract: number and cost.
 -- Assumes nothing.
-use borrow.Author.Rules.{rules}
 use mathlib.Core.Path.{sym, ap}
 use Rattle.memory.proofs.Laws.{cost_means_lem}
 use Rattle.bench.specs.Handed.{cost_words_of}

@@ -1,6 +1,5 @@
 -- `bench::held_words` meets its contract: each case in three words.
 -- Assumes nothing.
-use borrow.Author.Rules.{rules}
 use mathlib.Core.Path.{sym, ap, ◌∙◌}
 use Rattle.memory.specs.Answers.{held_means}
 use Rattle.memory.proofs.Laws.{refused_report_means, empty_means, report_means}

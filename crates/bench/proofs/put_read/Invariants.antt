@@ -1,13 +1,10 @@
 -- `bench::put_read` meets its contract. The loop's invariant: the metrics passed stand from the third word on.
 -- Assumes nothing.
-use native.Mathlib.Omega.{arith}
 use Prim.Native.Nat.{◌+◌, ◌-◌, ◌≤◌}
-use mathlib.Core.Path.{◌≡◌, refl}
-use lib.ListN.{length, take, length-set}
+use mathlib.Core.Path.{◌≡◌}
+use lib.ListN.{length, take}
 use Rattle.network.specs.Faults.{max_nodes}
 use Rattle.filling.specs.Filling.{Added}
-use Rattle.filling.proofs.Parts.{added_none}
-use Rattle.bench.proofs.Handing.{two_first, stored_next, stored_all}
 use Rattle.bench.proofs.put_read.Given as goal
 
 abbrev pub invariant-loop-i : goal.invariant-loop-i

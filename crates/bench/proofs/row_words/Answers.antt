@@ -1,6 +1,5 @@
 -- `bench::row_words` meets its contract: each case in five words.
 -- Assumes nothing.
-use borrow.Author.Rules.{rules}
 use mathlib.Core.Path.{sym, ap, ◌∙◌}
 use Rattle.memory.specs.Answers.{row_means}
 use Rattle.memory.proofs.Laws.{refused_row_means, no_route_means, origin_means, route_means}

@@ -1,6 +1,5 @@
 -- `command::put_metric` meets its contract: the node, its metric and the end of the line.
 -- Assumes nothing.
-use borrow.Author.Rules.{rules}
 use native.Mathlib.Omega.{arith}
 use Rattle.text.specs.Text.{field}
 use Rattle.text.proofs.Digits.{long_digits}

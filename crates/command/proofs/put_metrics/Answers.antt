@@ -1,9 +1,9 @@
 -- `command::put_metrics` meets its contract. The loop's invariant: the lines of the nodes passed stand from the start on, in at most 42 bytes each.
 -- Assumes nothing.
 use native.Mathlib.Omega.{arith}
-use Prim.Native.Nat.{◌*◌, ◌-◌, ◌≤◌}
+use Prim.Native.Nat.{◌*◌}
 use mathlib.Core.Path.{◌≡◌, refl, subst}
-use lib.ListN.{length, get_or}
+use lib.ListN.{get_or}
 use Rattle.records.proofs.Each.{each_zero, each_next}
 use Rattle.filling.proofs.Parts.{added_none, added_front}
 use Rattle.text.specs.Filled.{Filled}

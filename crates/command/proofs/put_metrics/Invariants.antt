@@ -1,14 +1,10 @@
 -- `command::put_metrics` meets its contract. The loop's invariant: the lines of the nodes passed stand from the start on, in at most 42 bytes each.
 -- Assumes nothing.
-use native.Mathlib.Omega.{arith}
 use Prim.Native.Nat.{◌*◌, ◌-◌, ◌≤◌}
-use mathlib.Core.Path.{◌≡◌, refl, subst}
-use lib.ListN.{length, get_or}
-use Rattle.records.proofs.Each.{each_zero, each_next}
-use Rattle.filling.proofs.Parts.{added_none, added_front}
+use mathlib.Core.Path.{◌≡◌}
+use lib.ListN.{length}
 use Rattle.text.specs.Filled.{Filled}
-use Rattle.text.proofs.Filling.{filled_as, filled_on}
-use Rattle.command.specs.Saying.{metric_line, node_lines}
+use Rattle.command.specs.Saying.{node_lines}
 use Rattle.command.proofs.put_metrics.Given as goal
 
 abbrev pub invariant-loop-node : goal.invariant-loop-node

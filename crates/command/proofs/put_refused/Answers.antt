@@ -1,6 +1,5 @@
 -- `command::put_refused` meets its contract: the word with the number, and the end of the line.
 -- Assumes nothing.
-use borrow.Author.Rules.{rules}
 use native.Mathlib.Omega.{arith}
 use Rattle.filling.proofs.Parts.{added_front}
 use Rattle.text.specs.Text.{field}

@@ -1,6 +1,5 @@
 -- `command::read_said` meets its contract: whether the messages were refused decides.
 -- Assumes nothing.
-use borrow.Author.Rules.{rules}
 use native.Mathlib.Omega.{arith}
 use Rattle.command.proofs.Texts.{says_error, says_output, read_stops, read_prints, read_most}
 use Rattle.command.proofs.read_said.Goals as goal

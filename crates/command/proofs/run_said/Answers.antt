@@ -1,6 +1,5 @@
 -- `command::run_said` meets its contract: whether the run was refused decides.
 -- Assumes nothing.
-use borrow.Author.Rules.{rules}
 use native.Mathlib.Omega.{arith}
 use Rattle.filling.proofs.Parts.{added_front}
 use Rattle.memory.specs.Layout.{view}

@@ -1,6 +1,5 @@
 -- `command::usage_said` meets its contract: the line is copied.
 -- Assumes nothing.
-use borrow.Author.Rules.{rules}
 use native.Mathlib.Omega.{arith}
 use mathlib.Core.Path.{refl}
 use Rattle.filling.proofs.Copying.{wrote_all}

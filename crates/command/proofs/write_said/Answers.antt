@@ -1,6 +1,5 @@
 -- `command::write_said` meets its contract: the base, then the length of the input decide.
 -- Assumes nothing.
-use borrow.Author.Rules.{rules}
 use native.Mathlib.Omega.{arith}
 use mathlib.Core.Path.{sym, ◌∙◌}
 use Rattle.filling.proofs.Copying.{wrote_all}
@@ -23,9 +22,9 @@ returns-then-input-gt-MAX_INPUT c =
 
 pub run_said-requires : goal.run_said-requires
 run_said-requires c = record {
-      base_value = sym c.base_refused.ensures ∙ c.if-base_refused.false;
-      in_bounds = omega arith;
-    }
+  base_value = sym c.base_refused.ensures ∙ c.if-base_refused.false;
+  in_bounds = omega arith;
+}
 
 pub returns : goal.returns
 unfolding max_input

@@ -1,6 +1,5 @@
 -- `faults::bit_beyond` meets its contract: a list without the bits not below n is another one where it has any.
 -- Assumes nothing.
-use borrow.Author.Rules.{rules}
 use native.Mathlib.Omega.{arith}
 use native.Mathlib.Nat.{mod-lt, mod-eq_of_lt}
 use Prim.Native.Nat.{ℕ, ◌%◌, ◌^◌, ◌<◌, ◌≤◌}

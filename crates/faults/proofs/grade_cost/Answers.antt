@@ -1,7 +1,5 @@
 -- `faults::grade_cost` meets its contract: the code's table is the definition's.
 -- Assumes nothing.
-use borrow.Author.Rules.{rules}
-use native.Mathlib.Omega.{arith}
 use mathlib.Core.Path.{refl, sym}
 use Rattle.network.specs.Change.{grade_cost_of, grades}
 use lib.ListN.{get_or-eq_default}

@@ -1,6 +1,5 @@
 -- `faults::list_fault` meets its contract, test by test.
 -- Assumes nothing.
-use borrow.Author.Rules.{rules}
 use Rattle.network.specs.Faults.{list_fault_of}
 use Rattle.faults.proofs.list_fault.Goals as goal
 

@@ -1,6 +1,5 @@
 -- `faults::report_fault` meets its contract, test by test.
 -- Assumes nothing.
-use borrow.Author.Rules.{rules}
 use borrow.Author.Tests.{eq-eqb, ne_eqb}
 use Rattle.network.specs.Faults.{report_form_number, arc_fault, report_label_fault}
 use Rattle.faults.proofs.report_fault.Goals as goal

@@ -1,6 +1,5 @@
 -- `faults::row_fault` meets its contract, test by test.
 -- Assumes nothing.
-use borrow.Author.Rules.{rules}
 use borrow.Author.Tests.{le-leb, lt-leb, eq-eqb, ne_eqb}
 use Rattle.network.specs.Faults.{row_form_number, origin_fault, row_label_fault, predecessor_fault}
 use Rattle.faults.proofs.row_fault.Goals as goal

@@ -1,6 +1,5 @@
 -- `faults::senders` meets its contract: the bits below n, and out of them the receiver's own.
 -- Assumes nothing.
-use borrow.Author.Rules.{rules}
 use mathlib.Core.Path.{ap, ◌∙◌}
 use mathlib.Core.Bool.{cond}
 use lib.Dec.{ltb}

@@ -1,13 +1,8 @@
 -- `filling::copy` meets its contract. The loop's invariant: the bytes passed stand at the front of the output.
 -- Assumes nothing.
-use native.Mathlib.Omega.{arith}
-use mathlib.Core.Path.{refl, sym, ◌∙◌}
 use Prim.Native.Nat.{◌-◌, ◌≤◌}
 use lib.ListN.{length, take}
-use lib.Seq.{take_all}
 use Rattle.filling.specs.Filling.{Wrote}
-use Rattle.filling.proofs.Parts.{wrote_none, wrote_as, as_long}
-use Rattle.filling.proofs.Copying.{wrote_next, copied_none, copied_all}
 use Rattle.filling.proofs.copy.Given as goal
 
 abbrev pub invariant-loop-i : goal.invariant-loop-i

@@ -1,6 +1,5 @@
 -- `firmware::gerqalli_run` meets its contract.
 -- Assumes nothing.
-use borrow.Author.Rules.{rules}
 use native.Mathlib.Omega.{arith}
 use Rattle.records.proofs.Sizes.{largest_any}
 use Rattle.firmware.proofs.Calling.{answered, answers_long, place_short, answers_refused, answers_image_refused, length_small, answers_written}

@@ -1,6 +1,5 @@
 -- `image::fits` meets its contract: in an output as long as the largest image of n nodes every image of n nodes has room.
 -- Assumes nothing.
-use borrow.Author.Rules.{rules}
 use borrow.Author.Tests.{le-leb}
 use native.Mathlib.Omega.{arith}
 use mathlib.Core.Path.{sym, ap}

@@ -1,15 +1,10 @@
 -- `image::held_all` meets its contract. The loop's invariant: the reports of the senders passed.
 -- Assumes nothing.
-use native.Mathlib.Omega.{arith}
-use Prim.Native.Nat.{◌+◌, ◌-◌, ◌≤◌}
-use mathlib.Core.Path.{◌≡◌, sym, ap, ◌∙◌}
-use mathlib.Core.Bool.{not, ◌&&◌}
-use lib.Dec.{eqb}
-use Rattle.ancestors.specs.Ancestors.{one, count}
-use Rattle.ancestors.proofs.Counting.{count_le}
+use Prim.Native.Nat.{◌-◌, ◌≤◌}
+use mathlib.Core.Path.{◌≡◌}
+use Rattle.ancestors.specs.Ancestors.{count}
 use Rattle.network.specs.Faults.{max_nodes}
 use Rattle.image.specs.Measured.{holds}
-use Rattle.image.proofs.Sums.{count_none, count_next}
 use Rattle.image.proofs.held_all.Given as goal
 
 abbrev pub invariant-loop-s : goal.invariant-loop-s

@@ -1,19 +1,11 @@
 -- `image::held_few` meets its contract. The loop's invariant: the reports of the senders before some one are counted, and the arcs from there on are left.
 -- Assumes nothing.
-use borrow.Author.Rules.{rules}
-use native.Mathlib.Omega.{arith}
-use Prim.Native.Nat.{ℕ, ◌+◌, ◌^◌, ◌<◌, ◌≤◌}
-use mathlib.Core.Path.{◌≡◌, sym, subst, ◌∙◌}
-use mathlib.Core.Bool.{true, false, not}
-use mathlib.Core.List.{List}
-use lib.Dec.{eqb}
-use Rattle.ancestors.specs.Ancestors.{has, one, count}
-use Rattle.ancestors.proofs.Counting.{count_le, count_gap}
-use Rattle.ancestors.proofs.Walk.{Rest, rest_all, rest_none, next_node, left_node}
+use Prim.Native.Nat.{ℕ, ◌^◌, ◌<◌, ◌≤◌}
+use mathlib.Core.Path.{◌≡◌}
+use Rattle.ancestors.specs.Ancestors.{has, count}
+use Rattle.ancestors.proofs.Walk.{Rest}
 use Rattle.network.specs.Faults.{max_nodes}
-use Rattle.memory.specs.Layout.{held_list_word_of}
 use Rattle.image.specs.Measured.{holds}
-use Rattle.image.proofs.Sums.{count_none, count_next}
 use Rattle.image.proofs.held_few.Given as goal
 
 abbrev pub invariant-loop-left : goal.invariant-loop-left

@@ -1,6 +1,5 @@
 -- `image::most_bytes` meets its contract: no product or sum is above that of 32 nodes.
 -- Assumes nothing.
-use borrow.Author.Rules.{rules}
 use native.Mathlib.Omega.{arith}
 use Rattle.records.specs.Records.{body_length}
 use Rattle.image.specs.Measured.{most_bytes_of}

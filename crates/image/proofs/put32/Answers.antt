@@ -1,6 +1,5 @@
 -- `image::put32` meets its contract: four bytes, stored one after the other.
 -- Assumes nothing.
-use borrow.Author.Rules.{rules}
 use native.Mathlib.Omega.{arith}
 use lib.ListN.{length-set}
 use Rattle.records.specs.Numbers.{be8, be16, be32}

@@ -1,6 +1,5 @@
 -- `image::put_arc` meets its contract: five bytes, stored one by one.
 -- Assumes nothing.
-use borrow.Author.Rules.{rules}
 use native.Mathlib.Omega.{arith}
 use lib.ListN.{length-set}
 use Rattle.records.specs.Numbers.{be8, be16}

@@ -1,7 +1,5 @@
 -- `image::put_end` meets its contract: one byte.
 -- Assumes nothing.
-use borrow.Author.Rules.{rules}
-use native.Mathlib.Omega.{arith}
 use Rattle.records.specs.Numbers.{be8}
 use Rattle.records.specs.Records.{body_length, end_record}
 use Rattle.filling.proofs.Parts.{wrote_byte}

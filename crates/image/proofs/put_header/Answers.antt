@@ -1,6 +1,5 @@
 -- `image::put_header` meets its contract: three bytes.
 -- Assumes nothing.
-use borrow.Author.Rules.{rules}
 use native.Mathlib.Omega.{arith}
 use lib.ListN.{length-set}
 use Rattle.records.specs.Numbers.{be8}

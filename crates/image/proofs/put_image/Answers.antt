@@ -1,6 +1,5 @@
 -- `image::put_image` meets its contract: the first record, arcs, rows, reports and the last record, one after the other.
 -- Assumes nothing.
-use borrow.Author.Rules.{rules}
 use native.Mathlib.Omega.{arith}
 use mathlib.Core.Path.{refl}
 use Rattle.memory.specs.Layout.{view}

@@ -1,6 +1,5 @@
 -- `image::put_item` meets its contract: the record of what was read.
 -- Assumes nothing.
-use borrow.Author.Rules.{rules}
 use mathlib.Core.Path.{ap}
 use Rattle.filling.proofs.Parts.{wrote_none, wrote_as, room_as}
 use Rattle.image.specs.Items.{item_bytes}

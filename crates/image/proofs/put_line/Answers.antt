@@ -1,7 +1,6 @@
 -- `image::put_line` meets its contract. The loop's invariant: the records passed stand from the start on.
 -- Assumes nothing.
 use native.Mathlib.Omega.{arith}
-use Prim.Native.Nat.{◌-◌, ◌≤◌}
 use mathlib.Core.Path.{◌≡◌, ap, subst}
 use lib.ListN.{length}
 use Rattle.memory.specs.Layout.{view}

@@ -1,9 +1,7 @@
 -- `image::put_lines` meets its contract. The loop's invariant: the lines passed stand from the start on.
 -- Assumes nothing.
 use native.Mathlib.Omega.{arith}
-use Prim.Native.Nat.{◌-◌, ◌≤◌}
 use mathlib.Core.Path.{◌≡◌, refl, subst}
-use lib.ListN.{length}
 use Rattle.memory.specs.Layout.{view}
 use Rattle.records.specs.Image.{each}
 use Rattle.records.proofs.Each.{each_zero, each_next}

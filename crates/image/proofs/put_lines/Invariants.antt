@@ -1,16 +1,12 @@
 -- `image::put_lines` meets its contract. The loop's invariant: the lines passed stand from the start on.
 -- Assumes nothing.
-use native.Mathlib.Omega.{arith}
 use Prim.Native.Nat.{◌-◌, ◌≤◌}
-use mathlib.Core.Path.{◌≡◌, refl, subst}
+use mathlib.Core.Path.{◌≡◌}
 use lib.ListN.{length}
 use Rattle.memory.specs.Layout.{view}
 use Rattle.records.specs.Image.{each}
-use Rattle.records.proofs.Each.{each_zero, each_next}
 use Rattle.image.specs.Lines.{record_line}
 use Rattle.filling.specs.Filling.{Added}
-use Rattle.filling.proofs.Parts.{added_none, added_as, added_on}
-use Rattle.image.proofs.Lengths.{each_among}
 use Rattle.image.proofs.put_lines.Given as goal
 
 abbrev pub invariant-loop-s : goal.invariant-loop-s

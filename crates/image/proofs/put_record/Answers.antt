@@ -1,6 +1,5 @@
 -- `image::put_record` meets its contract: what was read, in the rest of the output.
 -- Assumes nothing.
-use borrow.Author.Rules.{rules}
 use native.Mathlib.Omega.{arith}
 use mathlib.Core.Path.{refl, sym, ap, ◌∙◌}
 use lib.ListN.{length}
@@ -10,9 +9,9 @@ use Rattle.image.proofs.put_record.Goals as goal
 
 pub read_item-item-requires : goal.read_item-item-requires
 read_item-item-requires c = record {
-      arcs_value = c.requires.arcs_value;
-      i_bound = c.requires.i_bound;
-    }
+  arcs_value = c.requires.arcs_value;
+  i_bound = c.requires.i_bound;
+}
 
 pub put_item-requires : goal.put_item-requires
 put_item-requires c =

@@ -1,6 +1,5 @@
 -- `image::put_row` meets its contract: eleven bytes, of which two numbers first.
 -- Assumes nothing.
-use borrow.Author.Rules.{rules}
 use native.Mathlib.Omega.{arith}
 use lib.ListN.{length-set}
 use Rattle.image.proofs.Lengths.{sizes}

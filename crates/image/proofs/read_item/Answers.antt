@@ -1,6 +1,5 @@
 -- `image::read_item` meets its contract: the kind decides, the bit in the receiver's word, and what `memory` answers.
 -- Assumes nothing.
-use borrow.Author.Rules.{rules}
 use native.Mathlib.Omega.{arith}
 use mathlib.Core.Path.{sym, ap, ◌∙◌}
 use Rattle.memory.specs.Layout.{view, held_label_word_of}

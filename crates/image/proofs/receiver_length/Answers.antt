@@ -1,6 +1,5 @@
 -- `image::receiver_length` meets its contract: its row, and what is counted of arcs and reports.
 -- Assumes nothing.
-use borrow.Author.Rules.{rules}
 use native.Mathlib.Omega.{arith}
 use mathlib.Core.Path.{ap, ◌∙◌}
 use Rattle.ancestors.specs.Ancestors.{has, count}

@@ -1,6 +1,5 @@
 -- `image::row_length` meets its contract: what `memory` answers decides.
 -- Assumes nothing.
-use borrow.Author.Rules.{rules}
 use mathlib.Core.Path.{sym, ap, ◌∙◌}
 use lib.ListN.{length}
 use Rattle.memory.specs.Layout.{view}

@@ -1,6 +1,5 @@
 -- `image::write_image` meets its contract: the length decides.
 -- Assumes nothing.
-use borrow.Author.Rules.{rules}
 use borrow.Author.Tests.{leb-true, leb-false}
 use mathlib.Core.Path.{sym, ◌∙◌}
 use Rattle.memory.specs.Layout.{view}

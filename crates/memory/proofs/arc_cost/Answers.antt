@@ -1,6 +1,5 @@
 -- `memory::arc_cost` meets its contract: 3 for a bad pair, and else the bit of the arc decides.
 -- Assumes nothing.
-use borrow.Author.Rules.{rules}
 use native.Mathlib.Omega.{arith}
 use mathlib.Core.Path.{sym, ap, ◌∙◌}
 use Rattle.memory.specs.Answers.{cost_means}

@@ -1,8 +1,6 @@
 -- `memory::arc_word` meets its contract: the bits in range of the stored word.
 -- Assumes nothing.
-use borrow.Author.Rules.{rules}
 use mathlib.Core.Path.{ap, ◌∙◌}
-use native.Mathlib.Omega.{arith}
 use Prim.Native.Nat.{◌+◌}
 use lib.Bits.{bit_and}
 use Rattle.memory.specs.Layout.{look, arc_bits}

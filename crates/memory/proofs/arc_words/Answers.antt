@@ -1,8 +1,7 @@
 -- `memory::arc_words` meets its contract. The loop's invariant: the words of the nodes passed are their arcs.
 -- Assumes nothing.
-use borrow.Author.Rules.{rules}
 use native.Mathlib.Omega.{arith}
-use Prim.Native.Nat.{ℕ, ◌+◌, ◌-◌, ◌<◌, ◌≤◌}
+use Prim.Native.Nat.{ℕ, ◌+◌, ◌<◌, ◌≤◌}
 use mathlib.Core.Path.{◌≡◌, sym, subst, ◌∙◌}
 use mathlib.Core.Logic.{◌⊎◌, inl, inr, ◌≢◌}
 use mathlib.Core.List.{List}
@@ -40,9 +39,9 @@ loop-r-init c =
 
 pub arc_word-requires : goal.arc_word-requires
 arc_word-requires c = record {
-      n_value = c.nodes-n.ensures;
-      receiver_lt_max_nodes = omega (arith, c.nodes-n.ensures, few c.args.net.now);
-    }
+  n_value = c.nodes-n.ensures;
+  receiver_lt_max_nodes = omega (arith, c.nodes-n.ensures, few c.args.net.now);
+}
 
 pub loop-r-preserved : goal.loop-r-preserved
 loop-r-preserved c =

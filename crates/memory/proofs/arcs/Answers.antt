@@ -1,6 +1,5 @@
 -- `memory::arcs` meets its contract: 3 for a receiver that is no node, and else its word.
 -- Assumes nothing.
-use borrow.Author.Rules.{rules}
 use native.Mathlib.Omega.{arith}
 use Rattle.memory.specs.Layout.{view}
 use Rattle.memory.proofs.Laws.{few}

@@ -1,7 +1,6 @@
 -- `memory::cost_word` meets its contract: one more than the low sixteen bits.
 -- Assumes nothing.
 use mathlib.Core.Path.{ap}
-use native.Mathlib.Omega.{arith}
 use Rattle.network.specs.Words.{cost_of}
 use Rattle.memory.proofs.cost_word.Goals as goal
 

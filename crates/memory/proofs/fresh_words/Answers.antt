@@ -1,6 +1,5 @@
 -- `memory::fresh_words` meets its contract: zeros but for n and the origin.
 -- Assumes nothing.
-use borrow.Author.Rules.{rules}
 use Rattle.memory.proofs.Starting.{fresh_view}
 use Rattle.memory.proofs.fresh_words.Goals as goal
 

@@ -1,6 +1,5 @@
 -- `memory::held` meets its contract: 3 for a bad pair, and else the bit of the arc and the list of its report decide.
 -- Assumes nothing.
-use borrow.Author.Rules.{rules}
 use native.Mathlib.Omega.{arith}
 use mathlib.Core.Path.{sym, ◌∙◌}
 use Rattle.memory.specs.Answers.{held_means}

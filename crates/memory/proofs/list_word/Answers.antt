@@ -1,8 +1,6 @@
 -- `memory::list_word` meets its contract.
 -- Assumes nothing.
-use borrow.Author.Rules.{rules}
 use borrow.Author.Tests.{lt-ltb, le-ltb}
-use native.Mathlib.Omega.{arith}
 use Rattle.network.specs.Faults.{max_nodes}
 use Rattle.memory.specs.Layout.{word, list_word_of}
 use Rattle.memory.proofs.list_word.Goals as goal

@@ -1,6 +1,5 @@
 -- `memory::make_fresh` meets its contract: each fault is refused.
 -- Assumes nothing.
-use borrow.Author.Rules.{rules}
 use Rattle.memory.proofs.Starting.{fresh_no_node, fresh_many, fresh_no_origin, fresh_made}
 use Rattle.memory.proofs.make_fresh.Goals as goal
 

@@ -1,6 +1,5 @@
 -- `memory::nodes` meets its contract: an n above 32 counts as 32.
 -- Assumes nothing.
-use borrow.Author.Rules.{rules}
 use native.Mathlib.Omega.{arith}
 use Rattle.memory.specs.Layout.{view, net_of, frame_in}
 use Rattle.memory.proofs.nodes.Goals as goal

@@ -1,6 +1,5 @@
 -- `memory::origin` meets its contract.
 -- Assumes nothing.
-use borrow.Author.Rules.{rules}
 use Rattle.memory.proofs.Store.{read_first}
 use Rattle.memory.proofs.origin.Goals as goal
 

@@ -1,6 +1,5 @@
 -- `memory::pair_word` meets its contract, case by case.
 -- Assumes nothing.
-use native.Mathlib.Omega.{arith}
 use Rattle.memory.proofs.Reading.{pair_word_in, pair_word_sender, pair_word_receiver}
 use Rattle.memory.proofs.pair_word.Goals as goal
 

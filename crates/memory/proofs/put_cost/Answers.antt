@@ -1,6 +1,5 @@
 -- `memory::put_cost` meets its contract: cost 0 removes the arc, and any other sets it.
 -- Assumes nothing.
-use borrow.Author.Rules.{rules}
 use native.Mathlib.Omega.{arith}
 use mathlib.Core.Path.{sym, ap, ◌∙◌}
 use Rattle.network.specs.Change.{changed}

@@ -1,7 +1,5 @@
 -- `memory::remove_arc` meets its contract: the word of the receiver's arcs without the sender.
 -- Assumes nothing.
-use borrow.Author.Rules.{rules}
-use native.Mathlib.Omega.{arith}
 use Rattle.memory.proofs.Changing.{removed_words}
 use Rattle.memory.proofs.remove_arc.Goals as goal
 

@@ -1,6 +1,5 @@
 -- `memory::report_number` meets its contract, test by test.
 -- Assumes nothing.
-use borrow.Author.Rules.{rules}
 use mathlib.Core.Bool.{true, false}
 use mathlib.Core.Path.{◌≡◌, ◌∙◌}
 use Rattle.network.specs.Faults.{pair_fault_of, report_form_number}

@@ -1,6 +1,5 @@
 -- `memory::row` meets its contract, case by case.
 -- Assumes nothing.
-use borrow.Author.Rules.{rules}
 use native.Mathlib.Omega.{arith}
 use mathlib.Core.Path.{sym, ◌∙◌}
 use Rattle.memory.specs.Layout.{view}

@@ -1,6 +1,5 @@
 -- `memory::set_arc` meets its contract: three words stored are a change.
 -- Assumes nothing.
-use borrow.Author.Rules.{rules}
 use native.Mathlib.Omega.{arith}
 use mathlib.Core.Bool.{cond}
 use mathlib.Core.Path.{ap, ◌∙◌}

@@ -1,6 +1,5 @@
 -- `messages::list_metric` meets its contract.
 -- Assumes nothing.
-use borrow.Author.Rules.{rules}
 use borrow.Author.Tests.{eq-eqb, ne_eqb}
 use Rattle.messages.specs.Inner.{list_metric_of}
 use Rattle.messages.proofs.list_metric.Goals as goal

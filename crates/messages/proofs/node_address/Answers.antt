@@ -1,6 +1,5 @@
 -- `messages::node_address` meets its contract.
 -- Assumes nothing.
-use borrow.Author.Rules.{rules}
 use mathlib.Core.Path.{refl}
 use Rattle.response.specs.Messages.{address}
 use Rattle.messages.proofs.node_address.Goals as goal

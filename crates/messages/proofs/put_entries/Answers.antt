@@ -1,11 +1,10 @@
 -- `messages::put_entries` meets its contract. The loop's invariant: the entries of the nodes passed stand from the start on, 20 bytes each.
 -- Assumes nothing.
-use borrow.Author.Rules.{rules}
 use native.Mathlib.Omega.{arith}
-use Prim.Native.Nat.{◌+◌, ◌*◌, ◌-◌, ◌≤◌}
+use Prim.Native.Nat.{◌+◌, ◌-◌}
 use mathlib.Core.Path.{◌≡◌, refl, sym, ap, subst, ◌∙◌}
 use mathlib.Core.List.{◌++◌}
-use lib.ListN.{length, take, drop}
+use lib.ListN.{take, drop}
 use Rattle.filling.specs.Filling.{Wrote, Added}
 use Rattle.filling.proofs.Parts.{added_none, added_as, added_long, added_part}
 use Rattle.filling.proofs.Copying.{copied_part}
@@ -59,9 +58,9 @@ returns c =
 
 pub node_address-requires : goal.node_address-requires
 node_address-requires c = record {
-      sound = c.requires.sound;
-      node_lt_max_nodes = omega arith;
-    }
+  sound = c.requires.sound;
+  node_lt_max_nodes = omega arith;
+}
 
 pub shape_of-out : goal.shape_of-out
 shape_of-out c = c.loop-i.invariant.3

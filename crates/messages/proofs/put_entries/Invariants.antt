@@ -1,17 +1,11 @@
 -- `messages::put_entries` meets its contract. The loop's invariant: the entries of the nodes passed stand from the start on, 20 bytes each.
 -- Assumes nothing.
-use borrow.Author.Rules.{rules}
-use native.Mathlib.Omega.{arith}
 use Prim.Native.Nat.{◌+◌, ◌*◌, ◌-◌, ◌≤◌}
-use mathlib.Core.Path.{◌≡◌, refl, sym, ap, subst, ◌∙◌}
-use mathlib.Core.List.{◌++◌}
-use lib.ListN.{length, take, drop}
-use Rattle.filling.specs.Filling.{Wrote, Added}
-use Rattle.filling.proofs.Parts.{added_none, added_as, added_long, added_part}
-use Rattle.filling.proofs.Copying.{copied_part}
-use Rattle.response.specs.Messages.{entries, entry, entry_length}
+use mathlib.Core.Path.{◌≡◌}
+use lib.ListN.{length}
+use Rattle.filling.specs.Filling.{Added}
+use Rattle.response.specs.Messages.{entries, entry_length}
 use Rattle.messages.specs.Inner.{by}
-use Rattle.response.proofs.Sizes.{entry_size, entries_none, entries_next}
 use Rattle.messages.proofs.put_entries.Given as goal
 
 abbrev pub invariant-loop-i : goal.invariant-loop-i

@@ -1,6 +1,5 @@
 -- `messages::put_message` meets its contract: the header, then the entries.
 -- Assumes nothing.
-use borrow.Author.Rules.{rules}
 use native.Mathlib.Omega.{arith}
 use mathlib.Core.Path.{refl, sym, ap}
 use mathlib.Core.List.{[], ◌++◌}

@@ -1,13 +1,11 @@
 -- `messages::put_messages` meets its contract. The loop's invariant: the messages passed stand at the front.
 -- Assumes nothing.
-use borrow.Author.Rules.{rules}
 use native.Mathlib.Omega.{arith}
-use Prim.Native.Nat.{ℕ, ◌-◌, ◌≤◌}
+use Prim.Native.Nat.{ℕ}
 use mathlib.Core.Path.{◌≡◌, refl, subst}
-use lib.ListN.{length}
 use Rattle.records.specs.Image.{each}
 use Rattle.records.proofs.Each.{each_zero, each_next}
-use Rattle.filling.specs.Filling.{Wrote, Added}
+use Rattle.filling.specs.Filling.{Wrote}
 use Rattle.filling.proofs.Parts.{added_none, added_as, added_on, added_front}
 use Rattle.response.specs.Messages.{message, first_node, entry_count_of, message_count_of, messages}
 use Rattle.messages.specs.Inner.{by}

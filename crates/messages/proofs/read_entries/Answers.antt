@@ -1,16 +1,12 @@
 -- `messages::read_entries` meets its contract. The loop's invariant: no entry passed has a wrong field, and their metrics stand in their places.
 -- Assumes nothing.
-use borrow.Author.Rules.{rules}
 use native.Mathlib.Omega.{arith}
-use Prim.Native.Nat.{ℕ, ◌+◌, ◌*◌, ◌-◌, ◌≤◌}
+use Prim.Native.Nat.{ℕ, ◌+◌, ◌*◌, ◌-◌}
 use mathlib.Core.Path.{◌≡◌, subst}
 use mathlib.Core.Bool.{true, false}
-use lib.ListN.{length, length-set}
-use Rattle.network.specs.Round.{some}
-use Rattle.network.specs.Faults.{max_nodes}
-use Rattle.filling.specs.Filling.{Added}
+use lib.ListN.{length-set}
 use Rattle.response.specs.Messages.{address, header_length, entry_length}
-use Rattle.response.specs.Reading.{entry_fault, entry_from, message_metrics}
+use Rattle.response.specs.Reading.{entry_fault, entry_from}
 use Rattle.messages.specs.Inner.{EntriesRead}
 use Rattle.messages.proofs.Storing.{stored_wrong, stored_right, some_more, some_zero, zero_wrong, other_right, metrics_none, metrics_next}
 use Rattle.messages.proofs.read_entries.Goals as goal
@@ -22,9 +18,9 @@ loop-i-init c =
 
 pub node_address-requires : goal.node_address-requires
 node_address-requires c = record {
-      sound = c.requires.sound;
-      node_lt_max_nodes = omega arith;
-    }
+  sound = c.requires.sound;
+  node_lt_max_nodes = omega arith;
+}
 
 pub returns-then-m-eq0 : goal.returns-then-m-eq0
 returns-then-m-eq0 c =

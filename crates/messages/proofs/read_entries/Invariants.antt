@@ -1,18 +1,14 @@
 -- `messages::read_entries` meets its contract. The loop's invariant: no entry passed has a wrong field, and their metrics stand in their places.
 -- Assumes nothing.
-use borrow.Author.Rules.{rules}
-use native.Mathlib.Omega.{arith}
-use Prim.Native.Nat.{ℕ, ◌+◌, ◌*◌, ◌-◌, ◌≤◌}
-use mathlib.Core.Path.{◌≡◌, subst}
-use mathlib.Core.Bool.{true, false}
-use lib.ListN.{length, length-set}
+use Prim.Native.Nat.{◌+◌, ◌-◌, ◌≤◌}
+use mathlib.Core.Path.{◌≡◌}
+use mathlib.Core.Bool.{false}
+use lib.ListN.{length}
 use Rattle.network.specs.Round.{some}
 use Rattle.network.specs.Faults.{max_nodes}
 use Rattle.filling.specs.Filling.{Added}
-use Rattle.response.specs.Messages.{address, header_length, entry_length}
+use Rattle.response.specs.Messages.{address}
 use Rattle.response.specs.Reading.{entry_fault, entry_from, message_metrics}
-use Rattle.messages.specs.Inner.{EntriesRead}
-use Rattle.messages.proofs.Storing.{stored_wrong, stored_right, some_more, some_zero, zero_wrong, other_right, metrics_none, metrics_next}
 use Rattle.messages.proofs.read_entries.Given as goal
 
 abbrev pub invariant-loop-i : goal.invariant-loop-i

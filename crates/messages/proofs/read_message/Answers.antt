@@ -1,6 +1,5 @@
 -- `messages::read_message` meets its contract: the header, then the entries.
 -- Assumes nothing.
-use borrow.Author.Rules.{rules}
 use native.Mathlib.Omega.{arith}
 use mathlib.Core.Path.{sym, ◌∙◌}
 use lib.Seq.{length-take-le}

@@ -1,6 +1,5 @@
 -- `messages::read_messages` meets its contract: what is given, then the length, then the fields.
 -- Assumes nothing.
-use borrow.Author.Rules.{rules}
 use native.Mathlib.Omega.{arith}
 use borrow.Author.Tests.{not-true, not-false}
 use mathlib.Core.Path.{refl, sym, subst, ◌∙◌}

@@ -1,11 +1,9 @@
 -- `messages::row_metrics` meets its contract. The loop's invariant: the metrics by the lists of the nodes passed stand in their places.
 -- Assumes nothing.
-use borrow.Author.Rules.{rules}
 use native.Mathlib.Omega.{arith}
-use Prim.Native.Nat.{ℕ, ◌-◌, ◌<◌, ◌≤◌}
+use Prim.Native.Nat.{ℕ, ◌<◌}
 use mathlib.Core.Path.{◌≡◌, refl, ap, ◌∙◌}
 use lib.ListN.{length, length-set}
-use Rattle.network.specs.Faults.{max_nodes}
 use Rattle.memory.specs.Layout.{view, list_word_of}
 use Rattle.memory.proofs.Laws.{few}
 use Rattle.messages.specs.Inner.{list_metric_of, by}

@@ -1,15 +1,11 @@
 -- `messages::row_metrics` meets its contract. The loop's invariant: the metrics by the lists of the nodes passed stand in their places.
 -- Assumes nothing.
-use borrow.Author.Rules.{rules}
-use native.Mathlib.Omega.{arith}
 use Prim.Native.Nat.{ℕ, ◌-◌, ◌<◌, ◌≤◌}
-use mathlib.Core.Path.{◌≡◌, refl, ap, ◌∙◌}
-use lib.ListN.{length, length-set}
+use mathlib.Core.Path.{◌≡◌}
+use lib.ListN.{length}
 use Rattle.network.specs.Faults.{max_nodes}
-use Rattle.memory.specs.Layout.{view, list_word_of}
-use Rattle.memory.proofs.Laws.{few}
+use Rattle.memory.specs.Layout.{list_word_of}
 use Rattle.messages.specs.Inner.{list_metric_of, by}
-use Rattle.messages.proofs.Rows.{all_relays, with_origin, one_more}
 use Rattle.messages.proofs.row_metrics.Given as goal
 
 abbrev pub invariant-loop-y : goal.invariant-loop-y

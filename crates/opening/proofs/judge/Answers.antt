@@ -1,6 +1,5 @@
 -- `opening::judge` meets its contract.
 -- Assumes nothing.
-use borrow.Author.Rules.{rules}
 use borrow.Author.Tests.{eq-eqb, ne_eqb}
 use Rattle.opening.specs.Answers.{next_of}
 use Rattle.opening.proofs.judge.Goals as goal

@@ -3,7 +3,6 @@
 use mathlib.Core.Path.{refl}
 use Rattle.records.specs.Opening.{started}
 use Rattle.opening.proofs.Opening.{opening_of, header_within, header_started}
-use borrow.Author.Rules.{rules}
 use Rattle.opening.proofs.open_into.Goals as goal
 
 pub open_records-requires : goal.open_records-requires

@@ -2,7 +2,6 @@
 -- Assumes nothing.
 use mathlib.Core.Path.{◌∙◌}
 use Rattle.opening.proofs.Opening.{fresh_refused, fresh_read, read_refused, read_accepted}
-use borrow.Author.Rules.{rules}
 use Rattle.opening.proofs.open_records.Goals as goal
 
 pub returns-then-fault-ne0 : goal.returns-then-fault-ne0

@@ -1,6 +1,5 @@
 -- `opening::pair_rank` meets its contract.
 -- Assumes nothing.
-use borrow.Author.Rules.{rules}
 use mathlib.Core.Path.{refl}
 use native.Mathlib.Omega.{arith}
 use Rattle.records.specs.Opening.{arc_rank}

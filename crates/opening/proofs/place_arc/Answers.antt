@@ -1,6 +1,5 @@
 -- `opening::place_arc` meets its contract: range, then order, then the change is accepted.
 -- Assumes nothing.
-use borrow.Author.Rules.{rules}
 use native.Mathlib.Omega.{arith}
 use mathlib.Core.Path.{sym, ap, ◌∙◌}
 use Rattle.opening.specs.Answers.{next_of}

@@ -5,7 +5,6 @@ use Rattle.memory.specs.Layout.{view}
 use Rattle.records.specs.declared.Event.TheVariants.{Change}
 use Rattle.records.specs.Opening.{placed}
 use Rattle.opening.proofs.Placing.{stops, of_event}
-use borrow.Author.Rules.{rules}
 use Rattle.opening.proofs.place_change.Goals as goal
 
 pub returns-in-Set : goal.returns-in-Set

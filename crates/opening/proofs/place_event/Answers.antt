@@ -4,7 +4,6 @@ use mathlib.Core.Path.{refl}
 use Rattle.memory.specs.Layout.{view}
 use Rattle.records.specs.Opening.{placed}
 use Rattle.opening.proofs.Placing.{stops, ends, of_event}
-use borrow.Author.Rules.{rules}
 use Rattle.opening.proofs.place_event.Goals as goal
 
 pub returns-in-End : goal.returns-in-End

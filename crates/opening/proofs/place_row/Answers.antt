@@ -1,6 +1,5 @@
 -- `opening::place_row` meets its contract: range, then order, then the form.
 -- Assumes nothing.
-use borrow.Author.Rules.{rules}
 use native.Mathlib.Omega.{arith}
 use Rattle.memory.proofs.Laws.{few}
 use Rattle.records.specs.Opening.{row_rank}

@@ -1,12 +1,8 @@
 -- `opening::read_records` meets its contract. The loop's invariant: reading on from here gives the whole.
 -- Assumes nothing.
-use borrow.Author.Rules.{rules}
 use native.Mathlib.Omega.{arith}
-use Prim.Native.Nat.{◌-◌}
-use lib.ListN.{length, drop}
 use Rattle.memory.specs.Layout.{view}
-use Rattle.records.specs.Opening.{read_records_of}
-use Rattle.opening.proofs.Loop.{Going, begin, at_stop, at_end_lem, at_next}
+use Rattle.opening.proofs.Loop.{begin, at_stop, at_end_lem, at_next}
 use Rattle.opening.proofs.read_records.Goals as goal
 
 pub loop-number-init : goal.loop-number-init

@@ -1,6 +1,5 @@
 -- `opening::refuse` meets its contract: the fresh network of one node.
 -- Assumes nothing.
-use borrow.Author.Rules.{rules}
 use Rattle.opening.proofs.Opening.{refused_opens, fresh_one}
 use Rattle.opening.proofs.refuse.Goals as goal
 

@@ -1,6 +1,5 @@
 -- `reading::event_record` meets its contract: no kind byte, each kind of an event, and another.
 -- Assumes nothing.
-use borrow.Author.Rules.{rules}
 use mathlib.Core.Path.{refl, ◌∙◌}
 use native.Mathlib.Omega.{arith}
 use Rattle.records.specs.Records.{as_event, allowed, body_length, event_of}

@@ -1,6 +1,5 @@
 -- `reading::grade_body` meets its contract: a grade above 15 is refused, another stands for its cost.
 -- Assumes nothing.
-use borrow.Author.Rules.{rules}
 use Prim.Native.Nat.{◌<◌, ◌≤◌}
 use native.Mathlib.Omega.{arith}
 use Rattle.network.specs.Faults.{max_grade}

@@ -1,6 +1,5 @@
 -- `reading::grade_record` meets its contract.
 -- Assumes nothing.
-use borrow.Author.Rules.{rules}
 use mathlib.Core.Path.{◌∙◌}
 use native.Mathlib.Omega.{arith}
 use Rattle.records.specs.Records.{body_length, event_of}

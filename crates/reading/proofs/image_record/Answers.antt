@@ -1,8 +1,6 @@
 -- `reading::image_record` meets its contract: no kind byte, each kind of an image, and another.
 -- Assumes nothing.
-use borrow.Author.Rules.{rules}
-use mathlib.Core.Path.{refl, ap, ◌∙◌}
-use mathlib.Core.Logic.{⊎_elim}
+use mathlib.Core.Path.{refl, ◌∙◌}
 use native.Mathlib.Omega.{arith}
 use Rattle.records.specs.Records.{in_image, allowed, body_length, event_of}
 use Rattle.records.proofs.Reading.{none_allowed, ◌&◌}
@@ -53,6 +51,6 @@ returns-in-1 c =
     c.refused-in-1.ensures ∙ of_other in_image a.input.now a.at (omega arith)
     (none_allowed in_image (get_or a.input.now a.at 0)
     (elim c.in-1-1.branch [
-      in-1-1 w ↦ tt & omega arith & omega arith & omega arith & omega arith
+      | in-1-1 w ↦ tt & omega arith & omega arith & omega arith & omega arith
       | in_default+then-kind-lt8 w ↦ tt & omega arith & omega arith & omega arith & omega arith
     ]))

@@ -1,8 +1,6 @@
 -- `reading::start_record` meets its contract: no kind byte, a header, and another.
 -- Assumes nothing.
-use borrow.Author.Rules.{rules}
-use mathlib.Core.Path.{refl, ap, ◌∙◌}
-use mathlib.Core.Logic.{⊎_elim}
+use mathlib.Core.Path.{refl, ◌∙◌}
 use native.Mathlib.Omega.{arith}
 use Rattle.records.specs.Records.{at_start, allowed}
 use Rattle.records.proofs.Reading.{none_allowed, ◌&◌}

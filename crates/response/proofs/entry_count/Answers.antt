@@ -1,6 +1,5 @@
 -- `response::entry_count` meets its contract: the nodes that are left, at most those of a full message.
 -- Assumes nothing.
-use borrow.Author.Rules.{rules}
 use native.Mathlib.Omega.{arith}
 use Rattle.response.specs.Messages.{entry_count_of}
 use Rattle.response.proofs.entry_count.Goals as goal

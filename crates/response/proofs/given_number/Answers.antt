@@ -1,6 +1,5 @@
 -- `response::given_number` meets its contract: the base is tested first.
 -- Assumes nothing.
-use borrow.Author.Rules.{rules}
 use mathlib.Core.Path.{sym, ◌∙◌}
 use native.Mathlib.Omega.{arith}
 use Rattle.response.proofs.Answering.{count_zero, count_many, count_free, given_base, given_count, given_right}

@@ -1,6 +1,5 @@
 -- `response::message_count` meets its contract.
 -- Assumes nothing.
-use borrow.Author.Rules.{rules}
 use mathlib.Core.Path.{refl}
 use Rattle.response.specs.Messages.{message_count_of}
 use Rattle.response.proofs.message_count.Goals as goal

@@ -1,6 +1,5 @@
 -- `response::messages_length` meets its contract.
 -- Assumes nothing.
-use borrow.Author.Rules.{rules}
 use native.Mathlib.Omega.{arith}
 use Rattle.response.specs.Messages.{message_count_of, messages_length_of}
 use Rattle.response.proofs.messages_length.Goals as goal

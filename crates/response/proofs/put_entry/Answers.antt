@@ -1,6 +1,5 @@
 -- `response::put_entry` meets its contract: twenty bytes, the address first.
 -- Assumes nothing.
-use borrow.Author.Rules.{rules}
 use native.Mathlib.Omega.{arith}
 use lib.ListN.{length-set}
 use Rattle.response.proofs.Fields.{entry_stored_lem, entry_unstored}

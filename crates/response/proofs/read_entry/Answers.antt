@@ -1,6 +1,5 @@
 -- `response::read_entry` meets its contract: a field that differs is a fault, and where none does the metric decides.
 -- Assumes nothing.
-use borrow.Author.Rules.{rules}
 use native.Mathlib.Omega.{arith}
 use mathlib.Core.Path.{sym, ◌∙◌}
 use Rattle.response.specs.Reading.{entry_metric}

@@ -1,6 +1,5 @@
 -- `route::route` meets its contract: each refusal in its order, and the route copied.
 -- Assumes nothing.
-use borrow.Author.Rules.{rules}
 use native.Mathlib.Omega.{arith}
 use mathlib.Core.Path.{refl, sym, ◌∙◌}
 use Rattle.memory.specs.Layout.{view}

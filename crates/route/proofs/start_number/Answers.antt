@@ -1,6 +1,5 @@
 -- `route::start_number` meets its contract, case by case.
 -- Assumes nothing.
-use borrow.Author.Rules.{rules}
 use mathlib.Core.Path.{sym}
 use Rattle.route.proofs.Answering.{start_refused, start_none, start_origin, start_route}
 use Rattle.route.proofs.start_number.Goals as goal

@@ -4,11 +4,9 @@ use borrow.Author.Rules.{rules}
 use borrow.Author.Tests.{lt-ltb}
 use native.Mathlib.Omega.{arith}
 use mathlib.Core.Path.{◌≡◌, sym, ◌∙◌}
-use Prim.Native.Nat.{◌<◌, ◌≤◌}
-use lib.ListN.{length, drop, length-set}
+use Prim.Native.Nat.{◌<◌}
+use lib.ListN.{length-set}
 use Rattle.ancestors.specs.Ancestors.{put}
-use Rattle.network.specs.Faults.{max_nodes}
-use Rattle.network.specs.Route.{walk, walk_back_of}
 use Rattle.memory.specs.Layout.{view}
 use Rattle.memory.proofs.Laws.{few}
 use Rattle.route.proofs.Answering.{lost_refused, lost_none, at_origin, at_relay, start_walk, step_spent, step_again, step_lost, step_arrived, step_onward}

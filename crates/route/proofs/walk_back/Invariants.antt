@@ -1,17 +1,11 @@
 -- `route::walk_back` meets its contract. The loop's invariant: the walk from the present node on, with room for the nodes left, is the whole walk.
 -- Assumes nothing.
-use borrow.Author.Rules.{rules}
-use borrow.Author.Tests.{lt-ltb}
-use native.Mathlib.Omega.{arith}
-use mathlib.Core.Path.{◌≡◌, sym, ◌∙◌}
-use Prim.Native.Nat.{◌<◌, ◌≤◌}
-use lib.ListN.{length, drop, length-set}
-use Rattle.ancestors.specs.Ancestors.{put}
+use mathlib.Core.Path.{◌≡◌}
+use Prim.Native.Nat.{◌≤◌}
+use lib.ListN.{length, drop}
 use Rattle.network.specs.Faults.{max_nodes}
 use Rattle.network.specs.Route.{walk, walk_back_of}
 use Rattle.memory.specs.Layout.{view}
-use Rattle.memory.proofs.Laws.{few}
-use Rattle.route.proofs.Answering.{lost_refused, lost_none, at_origin, at_relay, start_walk, step_spent, step_again, step_lost, step_arrived, step_onward}
 use Rattle.route.proofs.walk_back.Given as goal
 
 abbrev pub invariant-loop-left : goal.invariant-loop-left

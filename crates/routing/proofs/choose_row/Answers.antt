@@ -1,7 +1,5 @@
 -- `routing::choose_row` meets its contract: the word of arcs and the parts lent are the words of one receiver.
 -- Assumes nothing.
-use borrow.Author.Rules.{rules}
-use native.Mathlib.Omega.{arith}
 use mathlib.Core.Path.{◌∙◌}
 use Rattle.routing.proofs.Renewing.{choose_words}
 use Rattle.routing.proofs.choose_row.Goals as goal

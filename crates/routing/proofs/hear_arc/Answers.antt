@@ -1,6 +1,5 @@
 -- `routing::hear_arc` meets its contract: two words stored hear one arc.
 -- Assumes nothing.
-use borrow.Author.Rules.{rules}
 use native.Mathlib.Omega.{arith}
 use lib.ListN.{length-set}
 use Rattle.routing.proofs.Hearing.{hear_arc}

@@ -1,16 +1,14 @@
 -- `routing::hear_few` meets its contract. The loop's invariant: the marks of the senders before some one are heard, and those from there on are left.
 -- Assumes nothing.
-use borrow.Author.Rules.{rules}
 use native.Mathlib.Omega.{arith}
-use Prim.Native.Nat.{ℕ, ◌+◌, ◌^◌, ◌<◌, ◌≤◌}
+use Prim.Native.Nat.{ℕ, ◌+◌, ◌<◌, ◌≤◌}
 use mathlib.Core.Path.{◌≡◌, refl, sym, subst, ◌∙◌}
 use mathlib.Core.Bool.{true, false}
-use lib.ListN.{length}
-use Rattle.ancestors.specs.Ancestors.{has, count}
+use Rattle.ancestors.specs.Ancestors.{has}
 use Rattle.ancestors.proofs.Walk.{Rest, rest_all, rest_none, next_node, left_node}
 use Rattle.network.specs.Round.{hear}
 use Rattle.network.proofs.Arcs.{hear_ext}
-use Rattle.memory.specs.Layout.{word_count, view}
+use Rattle.memory.specs.Layout.{view}
 use Rattle.routing.specs.Inner.{Hears, OnArc, row_marks}
 use Rattle.routing.proofs.Hearing.{hears_first, row_unmarked, row_gap, row_next, node_kept, bit_on}
 use Rattle.routing.proofs.hear_few.Goals as goal

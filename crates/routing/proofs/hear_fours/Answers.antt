@@ -1,18 +1,15 @@
 -- `routing::hear_fours` meets its contract. The loop's invariant: the marks of the senders passed are heard.
 -- Assumes nothing.
-use borrow.Author.Rules.{rules}
 use native.Mathlib.Omega.{arith}
-use Prim.Native.Nat.{ℕ, ◌+◌, ◌-◌, ◌/◌, ◌%◌, ◌^◌, ◌≤◌}
+use Prim.Native.Nat.{ℕ, ◌+◌, ◌/◌, ◌^◌}
 use mathlib.Core.Path.{◌≡◌, sym, ap, subst, ◌∙◌}
 use mathlib.Core.Bool.{Bool}
-use lib.ListN.{length}
 use lib.Pow.{shr-shr}
 use Rattle.ancestors.specs.Ancestors.{has}
 use Rattle.ancestors.proofs.Sets.{has_shifted}
-use Rattle.network.specs.Round.{hear}
 use Rattle.network.proofs.Arcs.{hear_ext}
-use Rattle.memory.specs.Layout.{word_count, view}
-use Rattle.routing.specs.Inner.{Hears, OnArc, row_marks}
+use Rattle.memory.specs.Layout.{view}
+use Rattle.routing.specs.Inner.{OnArc, row_marks}
 use Rattle.routing.proofs.Marks.{beyond}
 use Rattle.routing.proofs.Hearing.{hears_first, row_unmarked, row_next, row_rest, node_kept, bit_on}
 use Rattle.routing.proofs.hear_fours.Goals as goal
@@ -45,7 +42,7 @@ hear_arc-requires c =
       sender_bound = omega (arith, l.invariant.3, p.nodes);
       node = node_kept _ (view w) _ r h0 p.node.below;
       on_arc = subst (OnArc l.net l.s r) (sym (told a.word l.bits l.s 0 l.s l.invariant.4 (omega arith) c.listed.ensures))
-                (bit_on _ w l.net l.s r a.word h0 (omega (arith, l.invariant.3, p.nodes)) p.on_arcs);
+          (bit_on _ w l.net l.s r a.word h0 (omega (arith, l.invariant.3, p.nodes)) p.on_arcs);
     }
 
 pub hear_arc-requires-in-loop-s : goal.hear_arc-requires-in-loop-s
@@ -63,7 +60,7 @@ hear_arc-requires-in-loop-s c =
       sender_bound = omega (arith, l.invariant.3, p.nodes);
       node = node_kept _ (view w) _ r h1 p.node.below;
       on_arc = subst (OnArc z1.new.net (l.s + 1) r) (sym (told a.word l.bits l.s 1 (l.s + 1) l.invariant.4 (omega arith) c.listed-in-loop-s.ensures))
-                (bit_on _ w z1.new.net (l.s + 1) r a.word h1 (omega (arith, l.invariant.3, p.nodes)) p.on_arcs);
+          (bit_on _ w z1.new.net (l.s + 1) r a.word h1 (omega (arith, l.invariant.3, p.nodes)) p.on_arcs);
     }
 
 pub hear_arc-requires-in-loop-s-2 : goal.hear_arc-requires-in-loop-s-2
@@ -83,7 +80,7 @@ hear_arc-requires-in-loop-s-2 c =
       sender_bound = omega (arith, l.invariant.3, p.nodes);
       node = node_kept _ (view w) _ r h2 p.node.below;
       on_arc = subst (OnArc z2.new.net (l.s + 2) r) (sym (told a.word l.bits l.s 2 (l.s + 2) l.invariant.4 (omega arith) c.listed-in-loop-s-2.ensures))
-                (bit_on _ w z2.new.net (l.s + 2) r a.word h2 (omega (arith, l.invariant.3, p.nodes)) p.on_arcs);
+          (bit_on _ w z2.new.net (l.s + 2) r a.word h2 (omega (arith, l.invariant.3, p.nodes)) p.on_arcs);
     }
 
 pub hear_arc-requires-in-loop-s-3 : goal.hear_arc-requires-in-loop-s-3
@@ -105,7 +102,7 @@ hear_arc-requires-in-loop-s-3 c =
       sender_bound = omega (arith, l.invariant.3, p.nodes, c.loop-s-test.true);
       node = node_kept _ (view w) _ r h3 p.node.below;
       on_arc = subst (OnArc z3.new.net (l.s + 3) r) (sym (told a.word l.bits l.s 3 (l.s + 3) l.invariant.4 (omega arith) c.listed-in-loop-s-3.ensures))
-                (bit_on _ w z3.new.net (l.s + 3) r a.word h3 (omega (arith, l.invariant.3, p.nodes, c.loop-s-test.true)) p.on_arcs);
+          (bit_on _ w z3.new.net (l.s + 3) r a.word h3 (omega (arith, l.invariant.3, p.nodes, c.loop-s-test.true)) p.on_arcs);
     }
 
 pub loop-s-preserved : goal.loop-s-preserved

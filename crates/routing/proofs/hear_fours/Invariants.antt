@@ -1,20 +1,11 @@
 -- `routing::hear_fours` meets its contract. The loop's invariant: the marks of the senders passed are heard.
 -- Assumes nothing.
-use borrow.Author.Rules.{rules}
-use native.Mathlib.Omega.{arith}
-use Prim.Native.Nat.{ℕ, ◌+◌, ◌-◌, ◌/◌, ◌%◌, ◌^◌, ◌≤◌}
-use mathlib.Core.Path.{◌≡◌, sym, ap, subst, ◌∙◌}
-use mathlib.Core.Bool.{Bool}
+use Prim.Native.Nat.{◌-◌, ◌/◌, ◌%◌, ◌^◌, ◌≤◌}
+use mathlib.Core.Path.{◌≡◌}
 use lib.ListN.{length}
-use lib.Pow.{shr-shr}
-use Rattle.ancestors.specs.Ancestors.{has}
-use Rattle.ancestors.proofs.Sets.{has_shifted}
 use Rattle.network.specs.Round.{hear}
-use Rattle.network.proofs.Arcs.{hear_ext}
 use Rattle.memory.specs.Layout.{word_count, view}
-use Rattle.routing.specs.Inner.{Hears, OnArc, row_marks}
-use Rattle.routing.proofs.Marks.{beyond}
-use Rattle.routing.proofs.Hearing.{hears_first, row_unmarked, row_next, row_rest, node_kept, bit_on}
+use Rattle.routing.specs.Inner.{Hears, row_marks}
 use Rattle.routing.proofs.hear_fours.Given as goal
 
 abbrev pub invariant-loop-s : goal.invariant-loop-s

@@ -2,13 +2,11 @@
 -- Assumes nothing.
 use borrow.Author.Rules.{rules}
 use native.Mathlib.Omega.{arith}
-use Prim.Native.Nat.{◌+◌, ◌-◌, ◌≤◌}
+use Prim.Native.Nat.{◌+◌}
 use mathlib.Core.Path.{◌≡◌, sym, ap, ◌∙◌}
-use lib.ListN.{length}
-use Rattle.network.specs.Round.{hear}
 use Rattle.network.proofs.Arcs.{hear_ext}
-use Rattle.memory.specs.Layout.{word_count, view}
-use Rattle.routing.specs.Inner.{Hears, row_marks}
+use Rattle.memory.specs.Layout.{view}
+use Rattle.routing.specs.Inner.{row_marks}
 use Rattle.routing.proofs.Marks.{beyond}
 use Rattle.routing.proofs.Hearing.{hears_next, hears_first, up_to, up_none, up_step, up_all, word_on, given_kept, node_kept, nodes_kept}
 use Rattle.routing.proofs.hear_marks.Goals as goal

@@ -1,16 +1,12 @@
 -- `routing::hear_marks` meets its contract. The loop's invariant: what the receivers passed hear is heard.
 -- Assumes nothing.
-use borrow.Author.Rules.{rules}
-use native.Mathlib.Omega.{arith}
-use Prim.Native.Nat.{◌+◌, ◌-◌, ◌≤◌}
-use mathlib.Core.Path.{◌≡◌, sym, ap, ◌∙◌}
+use Prim.Native.Nat.{◌-◌, ◌≤◌}
+use mathlib.Core.Path.{◌≡◌}
 use lib.ListN.{length}
 use Rattle.network.specs.Round.{hear}
-use Rattle.network.proofs.Arcs.{hear_ext}
 use Rattle.memory.specs.Layout.{word_count, view}
-use Rattle.routing.specs.Inner.{Hears, row_marks}
-use Rattle.routing.proofs.Marks.{beyond}
-use Rattle.routing.proofs.Hearing.{hears_next, hears_first, up_to, up_none, up_step, up_all, word_on, given_kept, node_kept, nodes_kept}
+use Rattle.routing.specs.Inner.{Hears}
+use Rattle.routing.proofs.Hearing.{up_to}
 use Rattle.routing.proofs.hear_marks.Given as goal
 
 abbrev pub invariant-loop-r : goal.invariant-loop-r

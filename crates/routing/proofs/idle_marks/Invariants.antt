@@ -1,14 +1,8 @@
 -- `routing::idle_marks` meets its contract. The loop's invariant: `found` says whether a receiver passed has a mark that is not in the word of its arcs.
 -- Assumes nothing.
-use borrow.Author.Rules.{rules}
-use native.Mathlib.Omega.{arith}
-use mathlib.Core.Path.{◌≡◌, refl, ap, ◌∙◌}
-use Prim.Native.Nat.{◌+◌, ◌-◌, ◌≤◌}
-use native.Mathlib.Numerals.{add-one}
-use lib.Bits.{bit_and}
-use Rattle.network.specs.Round.{some}
-use Rattle.memory.specs.Layout.{look, view, arc_bits}
-use Rattle.memory.proofs.ArcLaws.{arcs_word}
+use mathlib.Core.Path.{◌≡◌}
+use Prim.Native.Nat.{◌-◌, ◌≤◌}
+use Rattle.memory.specs.Layout.{view}
 use Rattle.routing.specs.Inner.{idle_rows}
 use Rattle.routing.proofs.idle_marks.Given as goal
 

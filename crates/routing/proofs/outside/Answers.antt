@@ -1,6 +1,5 @@
 -- `routing::outside` meets its contract: a bit outside is one that the definition finds.
 -- Assumes nothing.
-use borrow.Author.Rules.{rules}
 use mathlib.Core.Path.{◌∙◌}
 use Rattle.network.proofs.Arcs.{outside_some}
 use Rattle.routing.specs.Inner.{outside}

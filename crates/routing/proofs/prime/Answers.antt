@@ -1,6 +1,5 @@
 -- `routing::prime` meets its contract: the origin's words are not part of the network.
 -- Assumes nothing.
-use borrow.Author.Rules.{rules}
 use native.Mathlib.Omega.{arith}
 use Prim.Native.Nat.{◌+◌, ◌<◌}
 use mathlib.Core.Path.{sym, ap, subst, ◌∙◌}

@@ -1,7 +1,5 @@
 -- `routing::put_word` meets its contract: a word stored again is no change.
 -- Assumes nothing.
-use borrow.Author.Rules.{rules}
-use native.Mathlib.Omega.{arith}
 use mathlib.Core.Path.{sym, ap, ◌∙◌}
 use lib.ListN.{set}
 use lib.Seq.{set-get_or}

@@ -1,10 +1,8 @@
 -- `routing::renew_row` meets its contract: the chosen row is stored.
 -- Assumes nothing.
-use borrow.Author.Rules.{rules}
 use mathlib.Core.Path.{ap, ◌∙◌}
 use Rattle.memory.specs.Layout.{view}
 use Rattle.routing.proofs.Renewing.{route_words_lem, no_route_words, never_refused}
-use Rattle.memory.proofs.Store.{store_row}
 use Rattle.network.specs.Network.{with_row}
 use Rattle.routing.proofs.renew_row.Goals as goal
 

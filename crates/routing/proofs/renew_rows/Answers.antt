@@ -2,14 +2,11 @@
 -- Assumes nothing.
 use borrow.Author.Rules.{rules}
 use native.Mathlib.Omega.{arith}
-use Prim.Native.Nat.{◌-◌, ◌≤◌}
-use mathlib.Core.Path.{◌≡◌, sym, ap, ◌∙◌}
-use mathlib.Core.Logic.{⊎_elim}
+use mathlib.Core.Path.{sym, ap, ◌∙◌}
 use lib.ListN.{length}
-use Rattle.memory.specs.Layout.{word_count, view}
+use Rattle.memory.specs.Layout.{view}
 use Rattle.memory.proofs.Store.{read_first}
 use Rattle.routing.proofs.Renewing.{renewed_none, renewed_origin, renewing_origin, renewing_nodes, renewing_node, renewing_next, renewing_done}
-use Rattle.network.specs.Round.{renew_to}
 use Rattle.routing.proofs.renew_rows.Goals.{then-r-origin, else-r-origin}
 use Rattle.routing.proofs.renew_rows.Goals as goal
 
@@ -29,9 +26,9 @@ renew_row-requires c =
       net_len = l.invariant.1;
       nodes = renewing_nodes w l.net l.r l.invariant.0 a.n p.nodes.is;
       node = renewing_node w l.net l.r l.invariant.0 l.r
-              (omega (arith, p.nodes.is));
+          (omega (arith, p.nodes.is));
       receiver_nonzero = λ e. c.if-r-origin.true (e ∙ renewing_origin w l.net l.r l.invariant.0 ∙ sym
-              (read_first w));
+          (read_first w));
     }
 
 pub loop-r-preserved : goal.loop-r-preserved
@@ -42,7 +39,7 @@ loop-r-preserved c =
     let x = view a.net.now in
     let w = a.net.now in
     elim c.if-r-origin.branch [
-      then-r-origin v ↦ (
+      | then-r-origin v ↦ (
         ap view v.net-is ∙ renewing_next w l.net l.r l.invariant.0 v.renew_row.new.net a.n p.nodes.is
             (λ e. v.if-r-origin.true (e ∙ sym (read_first w))) v.renew_row.ensures,
         ap length v.net-is ∙ v.renew_row.auto.net ∙ l.invariant.1,

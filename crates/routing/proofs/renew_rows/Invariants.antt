@@ -1,14 +1,9 @@
 -- `routing::renew_rows` meets its contract. The loop's invariant: the nodes passed but the origin have their new rows.
 -- Assumes nothing.
-use borrow.Author.Rules.{rules}
-use native.Mathlib.Omega.{arith}
 use Prim.Native.Nat.{◌-◌, ◌≤◌}
-use mathlib.Core.Path.{◌≡◌, sym, ap, ◌∙◌}
-use mathlib.Core.Logic.{⊎_elim}
+use mathlib.Core.Path.{◌≡◌}
 use lib.ListN.{length}
 use Rattle.memory.specs.Layout.{word_count, view}
-use Rattle.memory.proofs.Store.{read_first}
-use Rattle.routing.proofs.Renewing.{renewed_none, renewed_origin, renewing_origin, renewing_nodes, renewing_node, renewing_next, renewing_done}
 use Rattle.network.specs.Round.{renew_to}
 use Rattle.routing.proofs.renew_rows.Given as goal
 

@@ -11,10 +11,10 @@ returns-then-marks-ne32 c = let a = c.args in round_cut a.net.now a.marks.now c.
 
 pub idle_marks-requires : goal.idle_marks-requires
 idle_marks-requires c = record {
-      net_len = search rules;
-      marks_len = search rules;
-      n_value = c.nodes-n.ensures;
-    }
+  net_len = search rules;
+  marks_len = search rules;
+  n_value = c.nodes-n.ensures;
+}
 
 pub returns-then-stray_marks : goal.returns-then-stray_marks
 returns-then-stray_marks c =

@@ -1,6 +1,5 @@
 -- `routing::row_word` meets its contract: the word of arcs, or the word of marks.
 -- Assumes nothing.
-use borrow.Author.Rules.{rules}
 use native.Mathlib.Omega.{arith}
 use Prim.Native.Nat.{◌+◌}
 use mathlib.Core.Path.{ap, ◌∙◌}

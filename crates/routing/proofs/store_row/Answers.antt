@@ -1,6 +1,5 @@
 -- `routing::store_row` meets its contract: three words are a row.
 -- Assumes nothing.
-use borrow.Author.Rules.{rules}
 use native.Mathlib.Omega.{arith}
 use lib.ListN.{length-set}
 use Rattle.memory.proofs.Store.{store_row}

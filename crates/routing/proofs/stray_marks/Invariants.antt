@@ -1,11 +1,7 @@
 -- `routing::stray_marks` meets its contract. The loop's invariant: `found` says whether a receiver passed has a mark out of range.
 -- Assumes nothing.
-use borrow.Author.Rules.{rules}
-use native.Mathlib.Omega.{arith}
-use mathlib.Core.Path.{◌≡◌, refl, ap, ◌∙◌}
+use mathlib.Core.Path.{◌≡◌}
 use Prim.Native.Nat.{◌-◌, ◌≤◌}
-use native.Mathlib.Numerals.{add-one}
-use Rattle.network.specs.Round.{some}
 use Rattle.routing.specs.Inner.{stray_rows}
 use Rattle.routing.proofs.stray_marks.Given as goal
 

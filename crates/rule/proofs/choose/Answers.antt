@@ -1,6 +1,5 @@
 -- `rule::choose` meets its contract: each fault is refused, and else the least offer is chosen.
 -- Assumes nothing.
-use borrow.Author.Rules.{rules}
 use borrow.Author.Tests.{lt-ltb, le-ltb, le-leb, lt-leb, eq-eqb, ne_eqb}
 use Rattle.network.specs.Words.{choice_means, choose_of, words_fault}
 use Rattle.rule.proofs.choose.Goals as goal

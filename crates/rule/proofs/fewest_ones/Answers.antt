@@ -1,15 +1,11 @@
 -- `rule::fewest_ones` meets its contract. The loop's invariant: the sender that wins among those passed, and the ones of its report. Count-ones is
 -- the number of listed nodes, so fewer nodes are fewer ones. The senders after the last offer more.
 -- Assumes nothing.
-use borrow.Author.Rules.{rules}
 use native.Mathlib.Omega.{arith}
-use Prim.Native.Nat.{◌+◌, ◌-◌, ◌<◌, ◌≤◌}
+use Prim.Native.Nat.{◌+◌}
 use mathlib.Core.Path.{◌≡◌, sym, ◌∙◌}
-use mathlib.Core.Logic.{⊎_elim}
 use lib.ListN.{length, get_or}
-use Rattle.network.specs.Round.{winner}
-use Rattle.network.specs.Words.{cost_of, offers_of, ones_of}
-use Rattle.rule.specs.Passed.{winner_of}
+use Rattle.network.specs.Words.{cost_of}
 use Rattle.rule.proofs.Least.{below_arc, won_arc, ones_of_nodes, least_fits, fewest_first, fewest_pass, fewest_take, fewest_leave, fewest_rest, offer_large}
 use Rattle.rule.proofs.fewest_ones.Goals as goal
 use Rattle.rule.proofs.fewest_ones.Goals.{then-nodes-fewest, else-nodes-fewest}
@@ -84,19 +80,22 @@ loop-s-preserved c =
     let o = sym c.offer_most.ensures ∙ c.in-Sum.is in
     let arc = below_arc a.arcs xs ds ls a.receiver _ _ _ o in
     let nodes = ones_of_nodes a.arcs xs ds ls a.receiver l.s _ arc (omega (arith, c.type_inv.lists l.s)) c.count_nodes-nodes.ensures in
-    elim c.if-nodes-fewest.branch [ then-nodes-fewest w ↦ (
-      rw w.from-is (fewest_take a.arcs xs ds ls a.receiver (length xs) a.least a.first e l.s l.from (omega arith) l.invariant.0 _ o
-          (omega (arith, nodes, l.invariant.1, w.if-nodes-fewest.true))),
-      w.fewest-is ∙ nodes ∙ rw w.from-is,
-      omega (arith, l.invariant.2),
-      omega arith,
-    ) | else-nodes-fewest w ↦ (
-      rw w.from-is (fewest_leave a.arcs xs ds ls a.receiver (length xs) a.least a.first e l.s l.from (omega arith) l.invariant.0 _ o
-          (omega (arith, nodes, l.invariant.1, w.if-nodes-fewest.false))),
-      w.fewest-is ∙ l.invariant.1 ∙ rw w.from-is,
-      omega (arith, l.invariant.2),
-      omega arith,
-    ) ]
+    elim c.if-nodes-fewest.branch [
+      | then-nodes-fewest w ↦ (
+        rw w.from-is (fewest_take a.arcs xs ds ls a.receiver (length xs) a.least a.first e l.s l.from (omega arith) l.invariant.0 _ o
+            (omega (arith, nodes, l.invariant.1, w.if-nodes-fewest.true))),
+        w.fewest-is ∙ nodes ∙ rw w.from-is,
+        omega (arith, l.invariant.2),
+        omega arith,
+      )
+      | else-nodes-fewest w ↦ (
+        rw w.from-is (fewest_leave a.arcs xs ds ls a.receiver (length xs) a.least a.first e l.s l.from (omega arith) l.invariant.0 _ o
+            (omega (arith, nodes, l.invariant.1, w.if-nodes-fewest.false))),
+        w.fewest-is ∙ l.invariant.1 ∙ rw w.from-is,
+        omega (arith, l.invariant.2),
+        omega arith,
+      )
+    ]
 
 pub returns : goal.returns
 returns c =

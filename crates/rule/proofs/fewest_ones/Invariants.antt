@@ -1,16 +1,11 @@
 -- `rule::fewest_ones` meets its contract. The loop's invariant: the sender that wins among those passed, and the ones of its report. Count-ones is
 -- the number of listed nodes, so fewer nodes are fewer ones. The senders after the last offer more.
 -- Assumes nothing.
-use borrow.Author.Rules.{rules}
-use native.Mathlib.Omega.{arith}
 use Prim.Native.Nat.{◌+◌, ◌-◌, ◌<◌, ◌≤◌}
-use mathlib.Core.Path.{◌≡◌, sym, ◌∙◌}
-use mathlib.Core.Logic.{⊎_elim}
-use lib.ListN.{length, get_or}
+use mathlib.Core.Path.{◌≡◌}
 use Rattle.network.specs.Round.{winner}
-use Rattle.network.specs.Words.{cost_of, offers_of, ones_of}
+use Rattle.network.specs.Words.{offers_of, ones_of}
 use Rattle.rule.specs.Passed.{winner_of}
-use Rattle.rule.proofs.Least.{below_arc, won_arc, ones_of_nodes, least_fits, fewest_first, fewest_pass, fewest_take, fewest_leave, fewest_rest, offer_large}
 use Rattle.rule.proofs.fewest_ones.Given as goal
 
 abbrev pub invariant-loop-s : goal.invariant-loop-s

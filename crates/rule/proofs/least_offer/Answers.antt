@@ -1,11 +1,9 @@
 -- `rule::least_offer` meets its contract: the least sum and its sender, by the ones where it was met again.
 -- Assumes nothing.
-use borrow.Author.Rules.{rules}
 use native.Mathlib.Omega.{arith}
 use Prim.Native.Nat.{◌+◌}
 use mathlib.Core.Path.{◌≡◌, sym, ap, ◌∙◌}
 use borrow.Author.Tests.{lt-ltb}
-use mathlib.Core.Logic.{⊎_elim}
 use lib.ListN.{length, get_or}
 use Rattle.network.specs.Round.{sender, winner}
 use Rattle.network.specs.Words.{offers_of, ones_of, alike, chosen, choice_means}
@@ -62,9 +60,12 @@ found : (c : Joined-from-kept) →
 found c first =
     let k = c.pass_all-kept in
     let a = c.args in
-    elim c.if-from-kept.branch [ then-from-kept w ↦ rw w.from-is w.fewest_ones-from.ensures | else-from-kept w ↦ rw w.from-is
-    (alone_wins a.arcs a.costs.now a.labels.now a.lists.now a.receiver (length a.costs.now) (k.result.most + 1) k.result.from first
-    k.result.last (omega (arith, w.if-from-kept.false)) k.ensures.only) ]
+    elim c.if-from-kept.branch [
+      | then-from-kept w ↦ rw w.from-is w.fewest_ones-from.ensures
+      | else-from-kept w ↦ rw w.from-is
+          (alone_wins a.arcs a.costs.now a.labels.now a.lists.now a.receiver (length a.costs.now) (k.result.most + 1) k.result.from first
+          k.result.last (omega (arith, w.if-from-kept.false)) k.ensures.only)
+    ]
 
 pub overflow_cast-result : goal.overflow_cast-result
 overflow_cast-result c = omega (arith, won_below _ _ _ _ _ (found (goal.at.overflow_cast-result c).Joined-from-kept (first_found (goal.at.overflow_cast-result c).Else-most-ge-MAX_LABEL)), c.requires)

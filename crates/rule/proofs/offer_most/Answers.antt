@@ -1,6 +1,5 @@
 -- `rule::offer_most` meets its contract, case by case.
 -- Assumes nothing.
-use borrow.Author.Rules.{rules}
 use native.Mathlib.Omega.{arith}
 use mathlib.Core.Path.{sym, ap, ◌∙◌}
 use Rattle.network.specs.declared.Offer.TheVariants.{Sum}

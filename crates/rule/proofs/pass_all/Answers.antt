@@ -1,6 +1,5 @@
 -- `rule::pass_all` meets its contract, either way.
 -- Assumes nothing.
-use borrow.Author.Rules.{rules}
 use mathlib.Core.Path.{sym, subst}
 use Rattle.rule.specs.Passed.{Passed}
 use Rattle.rule.proofs.Least.{first_known}

@@ -1,18 +1,16 @@
 -- `rule::pass_arcs` meets its contract. The loop's invariant: up to some sender all were passed, and the arcs from there on are left.
 -- Assumes nothing.
-use borrow.Author.Rules.{rules}
 use native.Mathlib.Omega.{arith}
-use Prim.Native.Nat.{ℕ, ◌+◌, ◌%◌, ◌^◌, ◌<◌, ◌≤◌}
+use Prim.Native.Nat.{ℕ, ◌+◌, ◌%◌, ◌^◌, ◌<◌}
 use mathlib.Core.Path.{◌≡◌, sym, subst, ◌∙◌}
 use mathlib.Core.Bool.{true, false, ◌&&◌}
 use lib.Dec.{ltb}
 use lib.ListN.{length}
 use borrow.Author.Tests.{lt-ltb, ltb-true}
-use Rattle.ancestors.specs.Ancestors.{has, count}
+use Rattle.ancestors.specs.Ancestors.{has}
 use Rattle.ancestors.proofs.Cases.{and_both}
 use Rattle.ancestors.proofs.Sets.{has_low}
 use Rattle.ancestors.proofs.Walk.{Rest, rest_all, rest_none, next_node, left_node}
-use Rattle.rule.specs.Passed.{Passed}
 use Rattle.rule.proofs.Least.{absent_pass}
 use Rattle.rule.proofs.pass_arcs.Goals as goal
 
@@ -46,7 +44,7 @@ pass_sender-kept-requires c =
       lists_len = p.lists_len;
       s_in_bounds = under;
       passed = absent_pass a.arcs a.costs.now a.labels.now a.lists.now a.receiver l.invariant.0 _ l.kept.most l.kept.from l.kept.last next.from
-                (λ i from below. low_same a.arcs n i (omega (arith, under)) (next.gap i from below)) l.invariant.4;
+          (λ i from below. low_same a.arcs n i (omega (arith, under)) (next.gap i from below)) l.invariant.4;
     }
 
 pub loop-left-smaller : goal.loop-left-smaller

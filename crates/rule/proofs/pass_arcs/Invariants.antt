@@ -1,19 +1,9 @@
 -- `rule::pass_arcs` meets its contract. The loop's invariant: up to some sender all were passed, and the arcs from there on are left.
 -- Assumes nothing.
-use borrow.Author.Rules.{rules}
-use native.Mathlib.Omega.{arith}
-use Prim.Native.Nat.{ℕ, ◌+◌, ◌%◌, ◌^◌, ◌<◌, ◌≤◌}
-use mathlib.Core.Path.{◌≡◌, sym, subst, ◌∙◌}
-use mathlib.Core.Bool.{true, false, ◌&&◌}
-use lib.Dec.{ltb}
-use lib.ListN.{length}
-use borrow.Author.Tests.{lt-ltb, ltb-true}
+use Prim.Native.Nat.{ℕ, ◌%◌, ◌^◌, ◌<◌, ◌≤◌}
 use Rattle.ancestors.specs.Ancestors.{has, count}
-use Rattle.ancestors.proofs.Cases.{and_both}
-use Rattle.ancestors.proofs.Sets.{has_low}
-use Rattle.ancestors.proofs.Walk.{Rest, rest_all, rest_none, next_node, left_node}
+use Rattle.ancestors.proofs.Walk.{Rest}
 use Rattle.rule.specs.Passed.{Passed}
-use Rattle.rule.proofs.Least.{absent_pass}
 use Rattle.rule.proofs.pass_arcs.Given as goal
 
 abbrev pub invariant-loop-left : goal.invariant-loop-left

@@ -1,6 +1,5 @@
 -- `rule::pass_sender` meets its contract, case by case.
 -- Assumes nothing.
-use borrow.Author.Rules.{rules}
 use native.Mathlib.Omega.{arith}
 use Prim.Native.Nat.{◌+◌}
 use mathlib.Core.Path.{◌≡◌, sym, ap, ◌∙◌}
@@ -56,9 +55,9 @@ overflow_cast-kept c = omega (arith, c.requires.passed.fits)
 
 pub offer_most-requires : goal.offer_most-requires
 offer_most-requires c = record {
-      sender_bound = omega arith;
-      most_le_max_label = omega (arith, c.requires.passed.fits);
-    }
+  sender_bound = omega arith;
+  most_le_max_label = omega (arith, c.requires.passed.fits);
+}
 
 pub returns-in_default : goal.returns-in_default
 returns-in_default c =

@@ -1,7 +1,6 @@
 -- `rule::pass_senders` meets its contract. The loop's invariant is what is known of the senders that were passed.
 -- Assumes nothing.
 use native.Mathlib.Omega.{arith}
-use Prim.Native.Nat.{◌-◌, ◌≤◌}
 use mathlib.Core.Path.{subst}
 use Rattle.rule.specs.Passed.{Passed}
 use Rattle.rule.proofs.pass_senders.Goals as goal

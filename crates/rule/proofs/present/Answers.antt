@@ -2,7 +2,6 @@
 -- Assumes nothing.
 use mathlib.Core.Path.{ap}
 use Prim.Native.Nat.{ℕ, ◌/◌, ◌^◌}
-use native.Mathlib.Omega.{arith}
 use lib.Bits.{and_mask}
 use lib.Dec.{eqb}
 use Rattle.ancestors.specs.Ancestors.{has}

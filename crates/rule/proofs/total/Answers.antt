@@ -1,6 +1,5 @@
 -- `rule::total` meets its contract.
 -- Assumes nothing.
-use borrow.Author.Rules.{rules}
 use native.Mathlib.Omega.{arith}
 use Rattle.network.specs.Words.{cost_of}
 use Rattle.rule.proofs.total.Goals as goal

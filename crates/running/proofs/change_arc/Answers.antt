@@ -1,6 +1,5 @@
 -- `running::change_arc` meets its contract: a set arc and a removed one.
 -- Assumes nothing.
-use borrow.Author.Rules.{rules}
 use Rattle.running.proofs.Events.{does_set, does_removed}
 use Rattle.running.proofs.change_arc.Goals as goal
 

@@ -1,6 +1,5 @@
 -- `running::do_event` meets its contract: each case of an event.
 -- Assumes nothing.
-use borrow.Author.Rules.{rules}
 use native.Mathlib.Omega.{arith}
 use mathlib.Core.Path.{◌≡◌, ap}
 use Prim.Native.Nat.{◌+◌, ◌-◌, ◌≤◌}

@@ -1,6 +1,5 @@
 -- `running::mark_round` meets its contract: the body's marks, and then the round.
 -- Assumes nothing.
-use borrow.Author.Rules.{rules}
 use Rattle.running.proofs.Events.{marks_round}
 use Rattle.running.proofs.mark_round.Goals as goal
 

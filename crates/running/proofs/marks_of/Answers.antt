@@ -1,11 +1,8 @@
 -- `running::marks_of` meets its contract. The loop's invariant: the words passed are filled in.
 -- Assumes nothing.
-use borrow.Author.Rules.{rules}
 use native.Mathlib.Omega.{arith}
-use mathlib.Core.Path.{◌≡◌, refl}
-use Prim.Native.Nat.{◌≤◌, ◌-◌}
-use lib.ListN.{length, take, length-set}
-use Rattle.records.specs.Numbers.{words_in}
+use mathlib.Core.Path.{refl}
+use lib.ListN.{length-set}
 use Rattle.running.proofs.Marks.{none_filled, one_filled, all_filled}
 use Rattle.running.proofs.marks_of.Goals as goal
 

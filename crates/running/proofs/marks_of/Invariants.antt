@@ -1,12 +1,9 @@
 -- `running::marks_of` meets its contract. The loop's invariant: the words passed are filled in.
 -- Assumes nothing.
-use borrow.Author.Rules.{rules}
-use native.Mathlib.Omega.{arith}
-use mathlib.Core.Path.{◌≡◌, refl}
+use mathlib.Core.Path.{◌≡◌}
 use Prim.Native.Nat.{◌≤◌, ◌-◌}
-use lib.ListN.{length, take, length-set}
+use lib.ListN.{length, take}
 use Rattle.records.specs.Numbers.{words_in}
-use Rattle.running.proofs.Marks.{none_filled, one_filled, all_filled}
 use Rattle.running.proofs.marks_of.Given as goal
 
 abbrev pub invariant-loop-i : goal.invariant-loop-i

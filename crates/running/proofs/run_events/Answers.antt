@@ -1,8 +1,7 @@
 -- `running::run_events` meets its contract. The loop's invariant: the rest of the events gives the whole.
 -- Assumes nothing.
-use borrow.Author.Rules.{rules}
 use native.Mathlib.Omega.{arith}
-use Prim.Native.Nat.{◌+◌, ◌-◌, ◌<◌, ◌≤◌}
+use Prim.Native.Nat.{◌+◌, ◌<◌, ◌≤◌}
 use lib.ListN.{length}
 use Rattle.memory.specs.Layout.{view}
 use Rattle.running.specs.Inner.{events_from}

@@ -1,12 +1,10 @@
 -- `running::run_events` meets its contract. The loop's invariant: the rest of the events gives the whole.
 -- Assumes nothing.
-use borrow.Author.Rules.{rules}
-use native.Mathlib.Omega.{arith}
-use Prim.Native.Nat.{◌+◌, ◌-◌, ◌<◌, ◌≤◌}
+use Prim.Native.Nat.{◌-◌}
 use lib.ListN.{length}
 use Rattle.memory.specs.Layout.{view}
 use Rattle.running.specs.Inner.{events_from}
-use Rattle.running.proofs.Loop.{Rest, begin, round_at, at_end_lem, at_stop, at_next}
+use Rattle.running.proofs.Loop.{Rest}
 use Rattle.running.proofs.run_events.Given as goal
 
 abbrev pub invariant-loop-at : goal.invariant-loop-at

@@ -1,6 +1,5 @@
 -- `running::run_into` meets its contract: the image, and then the events.
 -- Assumes nothing.
-use borrow.Author.Rules.{rules}
 use Rattle.running.proofs.Whole.{events_inside, image_refused, events_follow}
 use Rattle.running.proofs.run_into.Goals as goal
 

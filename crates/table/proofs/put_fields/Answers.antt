@@ -1,6 +1,5 @@
 -- `table::put_fields` meets its contract: the fields by what `memory` answers.
 -- Assumes nothing.
-use borrow.Author.Rules.{rules}
 use native.Mathlib.Omega.{arith}
 use Rattle.memory.specs.Layout.{view}
 use Rattle.memory.proofs.Laws.{not_refused}

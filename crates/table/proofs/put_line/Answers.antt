@@ -1,6 +1,5 @@
 -- `table::put_line` meets its contract: the node, its fields and the end of the line.
 -- Assumes nothing.
-use borrow.Author.Rules.{rules}
 use native.Mathlib.Omega.{arith}
 use Rattle.text.proofs.Digits.{long_digits}
 use Rattle.text.proofs.Filling.{filled_on, filled_room}

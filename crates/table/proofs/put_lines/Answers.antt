@@ -1,10 +1,8 @@
 -- `table::put_lines` meets its contract. The loop's invariant: the lines of the nodes passed stand from the start on, in at most 84 bytes each.
 -- Assumes nothing.
-use borrow.Author.Rules.{rules}
 use native.Mathlib.Omega.{arith}
-use Prim.Native.Nat.{◌*◌, ◌-◌, ◌≤◌}
+use Prim.Native.Nat.{◌*◌}
 use mathlib.Core.Path.{◌≡◌, refl, subst}
-use lib.ListN.{length}
 use Rattle.memory.specs.Layout.{view}
 use Rattle.memory.proofs.Laws.{few}
 use Rattle.records.specs.Image.{each}

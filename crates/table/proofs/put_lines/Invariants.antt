@@ -1,17 +1,11 @@
 -- `table::put_lines` meets its contract. The loop's invariant: the lines of the nodes passed stand from the start on, in at most 84 bytes each.
 -- Assumes nothing.
-use borrow.Author.Rules.{rules}
-use native.Mathlib.Omega.{arith}
 use Prim.Native.Nat.{◌*◌, ◌-◌, ◌≤◌}
-use mathlib.Core.Path.{◌≡◌, refl, subst}
+use mathlib.Core.Path.{◌≡◌}
 use lib.ListN.{length}
 use Rattle.memory.specs.Layout.{view}
-use Rattle.memory.proofs.Laws.{few}
 use Rattle.records.specs.Image.{each}
-use Rattle.records.proofs.Each.{each_zero, each_next}
-use Rattle.filling.proofs.Parts.{added_none}
 use Rattle.text.specs.Filled.{Filled}
-use Rattle.text.proofs.Filling.{filled_as, filled_on}
 use Rattle.table.specs.Text.{line}
 use Rattle.table.proofs.put_lines.Given as goal
 

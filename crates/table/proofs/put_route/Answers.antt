@@ -1,6 +1,5 @@
 -- `table::put_route` meets its contract: three numbers, one after the other.
 -- Assumes nothing.
-use borrow.Author.Rules.{rules}
 use native.Mathlib.Omega.{arith}
 use Rattle.text.specs.Text.{field}
 use Rattle.text.proofs.Digits.{long_digits}

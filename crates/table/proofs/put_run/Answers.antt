@@ -1,6 +1,5 @@
 -- `table::put_run` meets its contract: whether the image was accepted decides.
 -- Assumes nothing.
-use borrow.Author.Rules.{rules}
 use native.Mathlib.Omega.{arith}
 use Rattle.filling.proofs.Parts.{added_front, added_as, added_on}
 use Rattle.text.proofs.Filling.{filled_room}

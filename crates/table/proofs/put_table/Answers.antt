@@ -1,6 +1,5 @@
 -- `table::put_table` meets its contract: the header, the lines of the nodes and the accepted rounds.
 -- Assumes nothing.
-use borrow.Author.Rules.{rules}
 use native.Mathlib.Omega.{arith}
 use Rattle.text.specs.Text.{field}
 use Rattle.text.proofs.Digits.{long_digits}

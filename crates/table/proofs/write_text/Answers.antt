@@ -1,6 +1,5 @@
 -- `table::write_text` meets its contract: the length of the input decides.
 -- Assumes nothing.
-use borrow.Author.Rules.{rules}
 use native.Mathlib.Omega.{arith}
 use Rattle.filling.proofs.Parts.{wrote_as}
 use Rattle.filling.proofs.Copying.{wrote_all}

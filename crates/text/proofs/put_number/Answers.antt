@@ -1,6 +1,5 @@
 -- `text::put_number` meets its contract: where there is room for both, the digits that `io` gives are put after the text.
 -- Assumes nothing.
-use borrow.Author.Rules.{rules}
 use native.Mathlib.Omega.{arith}
 use mathlib.Core.Path.{sym, ap, ◌∙◌}
 use lib.ListN.{length, length-append}

@@ -1,6 +1,5 @@
 -- `text::put_stop` meets its contract: the line is made in an array that has room for it, and put as a whole.
 -- Assumes nothing.
-use borrow.Author.Rules.{rules}
 use native.Mathlib.Omega.{arith}
 use mathlib.Core.Path.{sym, ◌∙◌}
 use lib.Seq.{length-take-le}

@@ -1,6 +1,5 @@
 -- `text::put_text` meets its contract: the bytes are copied to the rest of the output.
 -- Assumes nothing.
-use borrow.Author.Rules.{rules}
 use native.Mathlib.Omega.{arith}
 use Rattle.filling.proofs.Parts.{rest_added, added_within}
 use Rattle.text.proofs.Putting.{put_none, put_copied}
