@@ -28,7 +28,8 @@ pub extern "C" fn gerqalli_run(run: &[u8], out: &mut [u8]) -> u64
     }
     let mut net = [0u32; memory::WORDS];
     let end = running::run_into(&mut net, run);
-    if end.number != 0 {
+    let is_refused = end.number != 0;
+    if is_refused {
         return refusal(end.number, end.place);
     }
     let written = image::write_image(&net, out);

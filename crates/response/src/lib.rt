@@ -109,7 +109,8 @@ pub fn messages_length(n: u32) -> usize
 pub fn hops_metric(hops: u32) -> u8
     ensures { result ≡ hops_metric_of hops }
 {
-    if 15 <= hops {
+    let is_far = 15 <= hops;
+    if is_far {
         return INFINITY;
     }
     (hops + 1) as u8

@@ -105,7 +105,8 @@ fn fewest_ones(
             continue;
         };
         let nodes = ancestors::count_nodes(list);
-        if nodes < fewest {
+        let fewer = nodes < fewest;
+        if fewer {
             from = s;
             fewest = nodes;
         }

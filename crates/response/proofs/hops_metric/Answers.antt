@@ -6,9 +6,9 @@ use Prim.Native.Nat.{◌+◌, ◌<◌, ◌≤◌}
 use Rattle.response.specs.Messages.{hops_metric_of}
 use Rattle.response.proofs.hops_metric.Goals as goal
 
-pub returns-then-hops-ge15 : goal.returns-then-hops-ge15
+pub returns-then-is_far : goal.returns-then-is_far
 unfolding hops_metric_of
-returns-then-hops-ge15 c =
+returns-then-is_far c =
     let h = c.args.hops in
     let p : 15 < h + 1 = omega arith in
     rw (lt-ltb 15 (h + 1) p)

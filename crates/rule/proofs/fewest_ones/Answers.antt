@@ -8,7 +8,7 @@ use lib.ListN.{length, get_or}
 use Rattle.network.specs.Words.{cost_of}
 use Rattle.rule.proofs.Least.{below_arc, won_arc, ones_of_nodes, least_fits, fewest_first, fewest_pass, fewest_take, fewest_leave, fewest_rest, offer_large}
 use Rattle.rule.proofs.fewest_ones.Goals as goal
-use Rattle.rule.proofs.fewest_ones.Goals.{then-nodes-fewest, else-nodes-fewest}
+use Rattle.rule.proofs.fewest_ones.Goals.{then-fewer, else-fewer}
 
 pub loop-s-init : goal.loop-s-init
 loop-s-init c =
@@ -80,17 +80,17 @@ loop-s-preserved c =
     let o = sym c.offer_most.ensures ∙ c.in-Sum.is in
     let arc = below_arc a.arcs xs ds ls a.receiver _ _ _ o in
     let nodes = ones_of_nodes a.arcs xs ds ls a.receiver l.s _ arc (omega (arith, c.type_inv.lists l.s)) c.count_nodes-nodes.ensures in
-    elim c.if-nodes-fewest.branch [
-      | then-nodes-fewest w ↦ (
+    elim c.if-fewer.branch [
+      | then-fewer w ↦ (
         rw w.from-is (fewest_take a.arcs xs ds ls a.receiver (length xs) a.least a.first e l.s l.from (omega arith) l.invariant.0 _ o
-            (omega (arith, nodes, l.invariant.1, w.if-nodes-fewest.true))),
+            (omega (arith, nodes, l.invariant.1, w.if-fewer.true))),
         w.fewest-is ∙ nodes ∙ rw w.from-is,
         omega (arith, l.invariant.2),
         omega arith,
       )
-      | else-nodes-fewest w ↦ (
+      | else-fewer w ↦ (
         rw w.from-is (fewest_leave a.arcs xs ds ls a.receiver (length xs) a.least a.first e l.s l.from (omega arith) l.invariant.0 _ o
-            (omega (arith, nodes, l.invariant.1, w.if-nodes-fewest.false))),
+            (omega (arith, nodes, l.invariant.1, w.if-fewer.false))),
         w.fewest-is ∙ l.invariant.1 ∙ rw w.from-is,
         omega (arith, l.invariant.2),
         omega arith,
