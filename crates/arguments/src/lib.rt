@@ -49,8 +49,8 @@ fn no_number(text: &[u8]) -> bool
 
 // The number with one digit more.
 fn with_digit(n: u32, byte: u8) -> u32
-    requires le_byte { 48 ≤ byte }
-    requires byte_bound { byte ≤ 57 }
+    requires byte_min { 48 ≤ byte }
+    requires byte_max { byte ≤ 57 }
     ensures { result ≡ capped (n * 10 + (byte - 48)) }
 {
     let next = n as u64 * 10 + (byte - 48) as u64;

@@ -54,7 +54,7 @@ fn put_metric(node: usize, metric: u8, out: &mut [u8], at: usize) -> usize
 // The lines of n nodes.
 fn put_metrics(metrics: &[u8; response::NODES], n: usize, out: &mut [u8]) -> usize
     requires n_bound { n ≤ 32 }
-    requires in_bounds { 1344 ≤ length out.old }
+    requires room { 1344 ≤ length out.old }
     ensures { Wrote (node_lines metrics.now n) out.old out.new result }
 {
     let mut at: usize = 0;
@@ -84,8 +84,8 @@ pub fn usage_said(out: &mut [u8; MAX_SAID]) -> Said
 
 // Of a run.
 fn run_said(base: u32, input: &[u8], out: &mut [u8]) -> Said
-    requires base_value { base_fault base ≡ false }
-    requires in_bounds { 4096 ≤ length out.old }
+    requires base_sound { base_fault base ≡ false }
+    requires room { 4096 ≤ length out.old }
     ensures { Says (run_text base (run_of input.now)) result out.old out.new }
 {
     let mut net = [0u32; memory::WORDS];

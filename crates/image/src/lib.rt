@@ -319,7 +319,7 @@ fn put_record(
 ) -> usize
     requires arcs_value { arcs.now ≡ arc_words_of (view net.now) }
     requires i_bound { i < (view net.now).nodes }
-    requires i_in_bounds { at + length (record_at (view net.now) kind s i) ≤ length out.old }
+    requires room { at + length (record_at (view net.now) kind s i) ≤ length out.old }
     ensures { Added (record_at (view net.now) kind s i) out.old out.new at result }
 {
     let item = read_item(net, arcs, kind, s, i);
@@ -342,7 +342,7 @@ fn put_line(
 ) -> usize
     requires arcs_value { arcs.now ≡ arc_words_of (view net.now) }
     requires n_bound { n ≤ (view net.now).nodes }
-    requires s_in_bounds { start + length (record_line (view net.now) kind n s) ≤ length out.old }
+    requires room { start + length (record_line (view net.now) kind n s) ≤ length out.old }
     ensures { Added (record_line (view net.now) kind n s) out.old out.new start result }
 {
     let mut at = start;
@@ -357,7 +357,7 @@ fn put_line(
 fn put_lines(net: &Network, arcs: &Arcs, kind: u8, n: u32, out: &mut [u8], start: usize) -> usize
     requires arcs_value { arcs.now ≡ arc_words_of (view net.now) }
     requires n_bound { n ≤ (view net.now).nodes }
-    requires n_in_bounds { start + length (record_lines (view net.now) kind n) ≤ length out.old }
+    requires room { start + length (record_lines (view net.now) kind n) ≤ length out.old }
     ensures { Added (record_lines (view net.now) kind n) out.old out.new start result }
 {
     let mut at = start;
@@ -374,7 +374,7 @@ fn put_lines(net: &Network, arcs: &Arcs, kind: u8, n: u32, out: &mut [u8], start
 // Writes an image where there is room for it.
 fn put_image(net: &Network, arcs: &Arcs, out: &mut [u8]) -> usize
     requires arcs_value { arcs.now ≡ arc_words_of (view net.now) }
-    requires net_in_bounds { length (image (view net.now)) ≤ length out.old }
+    requires room { length (image (view net.now)) ≤ length out.old }
     ensures { Wrote (image (view net.now)) out.old out.new result }
 {
     let n = memory::nodes(net);

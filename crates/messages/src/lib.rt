@@ -70,7 +70,7 @@ fn put_entries(
 ) -> usize
     requires sound { Sound base }
     requires count_bound { first + count ≤ max_nodes }
-    requires entry_length_in_bounds { start + count * entry_length ≤ length out.old }
+    requires room { start + count * entry_length ≤ length out.old }
     ensures { Added (entries base (by metrics.now) first count) out.old out.new start result }
 {
     let mut at = start;
@@ -100,7 +100,7 @@ fn put_message(
     requires sound { Sound base }
     requires n_le_max_nodes { n ≤ max_nodes }
     requires k_bound { k < message_count_of n }
-    requires entry_length_in_bounds { start + (header_length + entry_count_of n k * entry_length) ≤ length out.old }
+    requires room { start + (header_length + entry_count_of n k * entry_length) ≤ length out.old }
     ensures { Added (message base (by metrics.now) (first_node k) (entry_count_of n k)) out.old out.new start result }
 {
     let at = start
@@ -122,7 +122,7 @@ fn put_message(
 fn put_messages(metrics: &[u8; response::NODES], base: u32, n: u32, out: &mut [u8]) -> usize
     requires sound { Sound base }
     requires n_le_max_nodes { n ≤ max_nodes }
-    requires n_in_bounds { messages_length_of n ≤ length out.old }
+    requires room { messages_length_of n ≤ length out.old }
     ensures { Wrote (messages base (by metrics.now) n) out.old out.new result }
 {
     let count = response::message_count(n);
@@ -164,7 +164,7 @@ pub fn write_messages(net: &Network, base: u32, out: &mut [u8]) -> Written
 fn read_entries(part: &[u8], base: u32, first: u32, count: u32, metrics: &mut [u8]) -> bool
     requires sound { Sound base }
     requires count_bound { first + count ≤ max_nodes }
-    requires entry_length_in_bounds { header_length + count * entry_length ≤ length part.now }
+    requires long_enough { header_length + count * entry_length ≤ length part.now }
     requires metrics_len { length metrics.old ≡ max_nodes }
     ensures { EntriesRead base first count part.now metrics.old metrics.new result }
 {
@@ -189,7 +189,7 @@ fn read_entries(part: &[u8], base: u32, first: u32, count: u32, metrics: &mut [u
 fn read_message(part: &[u8], base: u32, first: u32, count: u32, metrics: &mut [u8]) -> bool
     requires sound { Sound base }
     requires count_bound { first + count ≤ max_nodes }
-    requires entry_length_in_bounds { header_length + count * entry_length ≤ length part.now }
+    requires long_enough { header_length + count * entry_length ≤ length part.now }
     requires metrics_len { length metrics.old ≡ max_nodes }
     ensures { MessageRead base first count part.now metrics.old metrics.new result }
 {

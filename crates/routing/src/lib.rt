@@ -168,7 +168,7 @@ fn choose_row(net: &[u32], n: usize, receiver: usize) -> Choice
 fn store_row(net: &mut [u32], node: usize, label: u32, predecessor: u32, list: u32)
     requires net_len { length net.old ≡ word_count }
     requires node { Node net.old node }
-    requires node_nonzero { node ≢ (view net.old).origin }
+    requires not_origin { node ≢ (view net.old).origin }
     ensures { view net.new ≡ with_row (view net.old) node (row_of label predecessor list) }
 {
     net[ROW_LABELS + node] = label;
@@ -180,7 +180,7 @@ fn renew_row(net: &mut [u32], n: usize, receiver: usize)
     requires net_len { length net.old ≡ word_count }
     requires nodes { Nodes net.old n }
     requires node { Node net.old receiver }
-    requires receiver_nonzero { receiver ≢ (view net.old).origin }
+    requires not_origin { receiver ≢ (view net.old).origin }
     ensures { view net.new ≡ with_row (view net.old) receiver (choice n (λ s. (view net.old).cost s receiver) (λ s. (view net.old).held s receiver) receiver) }
 {
     let row = choose_row(net, n, receiver);

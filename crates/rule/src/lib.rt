@@ -87,7 +87,7 @@ fn fewest_ones(
     requires costs_len_bound { length costs.now ≤ 32 }
     requires labels_len { length labels.now ≡ length costs.now }
     requires lists_len { length lists.now ≡ length costs.now }
-    requires costs_value { winner (offers_of arcs costs.now labels.now lists.now receiver) alike (length costs.now) ≡ sender first least }
+    requires first_wins { winner (offers_of arcs costs.now labels.now lists.now receiver) alike (length costs.now) ≡ sender first least }
     requires first_lt_last { first < last }
     requires last_in_bounds { last < length costs.now }
     requires alone { Alone arcs costs.now labels.now lists.now receiver least first last (length costs.now) }

@@ -33,7 +33,7 @@ fn put_route(label: u32, predecessor: u32, hops: u32, out: &mut [u8], at: usize)
 // Label, predecessor and hops of a node.
 fn put_fields(net: &Network, node: u32, out: &mut [u8], at: usize) -> usize
     requires node_bound { node < (view net.now).nodes }
-    requires at_in_bounds { at + 63 ≤ length out.old }
+    requires room { at + 63 ≤ length out.old }
     ensures { Filled 63 (fields ((view net.now).row node)) out.old out.new at result }
 {
     let row = memory::row(net, node);
@@ -53,7 +53,7 @@ fn put_fields(net: &Network, node: u32, out: &mut [u8], at: usize) -> usize
 // The line of a node.
 fn put_line(net: &Network, node: u32, out: &mut [u8], at: usize) -> usize
     requires node_bound { node < (view net.now).nodes }
-    requires at_in_bounds { at + 84 ≤ length out.old }
+    requires room { at + 84 ≤ length out.old }
     ensures { Filled 84 (line (view net.now) node) out.old out.new at result }
 {
     let next = text::put_number(b"", node as usize, out, at);
@@ -94,7 +94,7 @@ fn put_table(net: &Network, rounds: usize, out: &mut [u8], at: usize) -> usize
 // The text of a run.
 fn put_run(input: &[u8], out: &mut [u8]) -> usize
     requires input_len_bound { length input.now ≤ max_input }
-    requires in_bounds { 2789 ≤ length out.old }
+    requires room { 2789 ≤ length out.old }
     ensures { Wrote (text_of input.now) out.old out.new result }
 {
     let mut net = [0u32; memory::WORDS];

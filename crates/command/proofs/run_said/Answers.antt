@@ -22,5 +22,5 @@ returns c =
     let input = c.args.input.now in
     let count = run_count c.args.base input run.result run.new.net run.ensures (λ i. omega (arith, c.type_inv.input i)) in
     says_output (run_writes c.args.base input run.result run.new.net run.ensures c.if-run-ne0.false)
-    (wrote_messages c.args.base (view run.new.net) c.args.out.now c.write_messages-written.ensures c.requires.base_value count (omega (arith, largest_messages)))
+    (wrote_messages c.args.base (view run.new.net) c.args.out.now c.write_messages-written.ensures c.requires.base_sound count (omega (arith, largest_messages)))
     c.said_of-2.ensures

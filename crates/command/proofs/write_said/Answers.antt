@@ -22,8 +22,8 @@ returns-then-input-gt-MAX_INPUT c =
 
 pub run_said-requires : goal.run_said-requires
 run_said-requires c = record {
-  base_value = sym c.base_refused.ensures ∙ c.if-base_refused.false;
-  in_bounds = omega arith;
+  base_sound = sym c.base_refused.ensures ∙ c.if-base_refused.false;
+  room = omega arith;
 }
 
 pub returns : goal.returns

@@ -26,7 +26,7 @@ put_lines-rows-requires c =
     record {
       arcs_value = c.requires.arcs_value;
       n_bound = omega arith;
-      n_in_bounds = omega (arith, header_end _ _ c.put_header-first.ensures);
+      room = omega (arith, header_end _ _ c.put_header-first.ensures);
     }
 
 pub put_line-reports-requires : goal.put_line-reports-requires
@@ -37,7 +37,7 @@ put_line-reports-requires c =
     record {
       arcs_value = c.requires.arcs_value;
       n_bound = omega arith;
-      s_in_bounds = omega (arith, header_end _ _ c.put_header-first.ensures, c.put_lines-rows.ensures.place);
+      room = omega (arith, header_end _ _ c.put_header-first.ensures, c.put_lines-rows.ensures.place);
     }
 
 pub put_lines-end-requires : goal.put_lines-end-requires
@@ -48,7 +48,7 @@ put_lines-end-requires c =
     record {
       arcs_value = c.requires.arcs_value;
       n_bound = omega arith;
-      n_in_bounds = omega (arith, header_end _ _ c.put_header-first.ensures, c.put_lines-rows.ensures.place, c.put_line-reports.ensures.place);
+      room = omega (arith, header_end _ _ c.put_header-first.ensures, c.put_lines-rows.ensures.place, c.put_line-reports.ensures.place);
     }
 
 pub slice_bounds-put_end-count : goal.slice_bounds-put_end-count

@@ -27,7 +27,7 @@ put_record-at-requires c =
     record {
       arcs_value = c.requires.arcs_value;
       i_bound = omega arith;
-      i_in_bounds = omega (arith, l.invariant.0.place, each_among f l.i a.n c.loop-i-test.true);
+      room = omega (arith, l.invariant.0.place, each_among f l.i a.n c.loop-i-test.true);
     }
 
 pub loop-i-preserved : goal.loop-i-preserved

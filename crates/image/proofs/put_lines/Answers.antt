@@ -25,7 +25,7 @@ put_line-at-requires c =
     record {
       arcs_value = c.requires.arcs_value;
       n_bound = omega arith;
-      s_in_bounds = omega (arith, l.invariant.0.place, l.invariant.1, each_among f l.s a.n c.loop-s-test.true);
+      room = omega (arith, l.invariant.0.place, l.invariant.1, each_among f l.s a.n c.loop-s-test.true);
     }
 
 pub loop-s-preserved : goal.loop-s-preserved

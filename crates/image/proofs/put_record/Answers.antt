@@ -16,11 +16,11 @@ read_item-item-requires c = record {
 pub put_item-requires : goal.put_item-requires
 put_item-requires c =
     let a = c.args in
-    rest_room a.out.now a.at (omega arith) _ (place_room a.at (sym c.read_item-item.ensures) refl c.requires.i_in_bounds)
+    rest_room a.out.now a.at (omega arith) _ (place_room a.at (sym c.read_item-item.ensures) refl c.requires.room)
 
 pub overflow_add-result : goal.overflow_add-result
 overflow_add-result c =
-    omega (arith, c.requires.i_in_bounds, c.well_formed, ap length c.read_item-item.ensures, c.put_item.ensures.used)
+    omega (arith, c.requires.room, c.well_formed, ap length c.read_item-item.ensures, c.put_item.ensures.used)
 
 pub returns-in-Nothing : goal.returns-in-Nothing
 unfolding item_bytes

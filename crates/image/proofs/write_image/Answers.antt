@@ -10,7 +10,7 @@ pub put_image-requires : goal.put_image-requires
 put_image-requires c =
     record {
       arcs_value = c.arc_words.ensures;
-      net_in_bounds = leb-true _ _ (sym c.fits.ensures ∙ c.if-fits.true);
+      room = leb-true _ _ (sym c.fits.ensures ∙ c.if-fits.true);
     }
 
 pub returns-then-fits : goal.returns-then-fits

@@ -39,7 +39,7 @@ put_entries-requires c =
     record {
       sound = c.requires.sound;
       count_bound = omega (arith, count.ensures, entry_count_within c.args.n c.args.k c.requires.k_bound, c.requires.n_le_max_nodes);
-      entry_length_in_bounds = added_fits (count.result * entry_length) (headed (goal.at.put_entries-requires c).After-copy) (omega (arith, count.ensures, (headed (goal.at.put_entries-requires c).After-copy).place, header_size, c.requires.entry_length_in_bounds));
+      room = added_fits (count.result * entry_length) (headed (goal.at.put_entries-requires c).After-copy) (omega (arith, count.ensures, (headed (goal.at.put_entries-requires c).After-copy).place, header_size, c.requires.room));
     }
 
 pub returns : goal.returns

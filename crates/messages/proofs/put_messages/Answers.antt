@@ -23,7 +23,7 @@ put_message-at-requires c =
       sound = c.requires.sound;
       n_le_max_nodes = c.requires.n_le_max_nodes;
       k_bound = omega (arith, count);
-      entry_length_in_bounds = omega (arith, count, l.invariant, l.invariant.0.place, before_size a.n a.base (by a.metrics.now) l.k, message_room a.n l.k (omega (arith, count)), c.requires.n_in_bounds);
+      room = omega (arith, count, l.invariant, l.invariant.0.place, before_size a.n a.base (by a.metrics.now) l.k, message_room a.n l.k (omega (arith, count)), c.requires.room);
     }
 
 pub loop-k-preserved : goal.loop-k-preserved

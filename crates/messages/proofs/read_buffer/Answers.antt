@@ -46,7 +46,7 @@ read_message-right-requires c =
     record {
       sound = c.requires.sound;
       count_bound = omega (arith, count.ensures, entry_count_within a.n l.k p);
-      entry_length_in_bounds = rest_room b (l.k * full_length) (omega (arith, i.0)) (header_length + count.result * entry_length) (omega (arith, i.0, count.ensures));
+      long_enough = rest_room b (l.k * full_length) (omega (arith, i.0)) (header_length + count.result * entry_length) (omega (arith, i.0, count.ensures));
       metrics_len = l.invariant.3;
     }
 

@@ -35,7 +35,7 @@ put_messages-requires c =
     record {
       sound = omega (arith, base, c.ranges.base);
       n_le_max_nodes = omega (arith, n.ensures, few c.args.net.now);
-      n_in_bounds = omega (arith, c.if-out-messages_length.false, c.messages_length.ensures);
+      room = omega (arith, c.if-out-messages_length.false, c.messages_length.ensures);
     }
 
 pub returns : goal.returns

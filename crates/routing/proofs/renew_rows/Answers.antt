@@ -27,7 +27,7 @@ renew_row-requires c =
       nodes = renewing_nodes w l.net l.r l.invariant.0 a.n p.nodes.is;
       node = renewing_node w l.net l.r l.invariant.0 l.r
           (omega (arith, p.nodes.is));
-      receiver_nonzero = λ e. c.if-r-origin.true (e ∙ renewing_origin w l.net l.r l.invariant.0 ∙ sym
+      not_origin = λ e. c.if-r-origin.true (e ∙ renewing_origin w l.net l.r l.invariant.0 ∙ sym
           (read_first w));
     }
 

@@ -9,7 +9,7 @@ pub returns : goal.returns
 returns c =
     let a = c.args in
     let p = c.requires in
-    store_row a.net.now p.net_len a.node a.label a.predecessor a.list p.node.below p.node_nonzero
+    store_row a.net.now p.net_len a.node a.label a.predecessor a.list p.node.below p.not_origin
 
 pub bounds-net-node-2 : goal.bounds-net-node-2
 bounds-net-node-2 c = simp length-set (omega arith)

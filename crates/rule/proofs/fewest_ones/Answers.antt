@@ -16,7 +16,7 @@ loop-s-init c =
     let xs = a.costs.now in
     let ds = a.labels.now in
     let ls = a.lists.now in
-    let e = c.requires.costs_value in
+    let e = c.requires.first_wins in
     let arc = won_arc a.arcs xs ds ls a.receiver _ _ _ _ e in (
       fewest_first a.arcs xs ds ls a.receiver (length xs) a.least a.first e,
       ones_of_nodes a.arcs xs ds ls a.receiver a.first _ arc (omega (arith, c.type_inv.lists a.first)) c.count_nodes-fewest.ensures,
@@ -32,7 +32,7 @@ loop-s-preserved-then-wide-total c =
     let xs = a.costs.now in
     let ds = a.labels.now in
     let ls = a.lists.now in
-    let e = c.requires.costs_value in
+    let e = c.requires.first_wins in
     let o =
     sym
     (offer_large a.arcs l.s a.receiver (cost_of (get_or xs l.s 0)) (get_or ds l.s 0) (get_or ls l.s 0) (a.least + 1)
@@ -46,7 +46,7 @@ loop-s-preserved-then-wide-total c =
 pub offer_most-requires : goal.offer_most-requires
 offer_most-requires c =
     let a = c.args in
-    let fits = least_fits a.arcs a.costs.now a.labels.now a.lists.now a.receiver _ _ _ c.requires.costs_value in
+    let fits = least_fits a.arcs a.costs.now a.labels.now a.lists.now a.receiver _ _ _ c.requires.first_wins in
     record {
       sender_bound = omega arith;
       most_le_max_label = omega (arith, fits);
@@ -60,7 +60,7 @@ loop-s-preserved-in_default c =
     let xs = a.costs.now in
     let ds = a.labels.now in
     let ls = a.lists.now in
-    let e = c.requires.costs_value in
+    let e = c.requires.first_wins in
     let o = sym c.offer_most.ensures ∙ c.in_default.is in (
       fewest_pass a.arcs xs ds ls a.receiver (length xs) a.least a.first e l.s l.from (omega arith) l.invariant.0 o,
       l.invariant.1,
@@ -76,7 +76,7 @@ loop-s-preserved c =
     let xs = a.costs.now in
     let ds = a.labels.now in
     let ls = a.lists.now in
-    let e = c.requires.costs_value in
+    let e = c.requires.first_wins in
     let o = sym c.offer_most.ensures ∙ c.in-Sum.is in
     let arc = below_arc a.arcs xs ds ls a.receiver _ _ _ o in
     let nodes = ones_of_nodes a.arcs xs ds ls a.receiver l.s _ arc (omega (arith, c.type_inv.lists l.s)) c.count_nodes-nodes.ensures in
@@ -106,5 +106,5 @@ returns c =
     let ds = a.labels.now in
     let ls = a.lists.now in
     let all : l.s ≡ a.last + 1 = omega arith in
-    fewest_rest a.arcs xs ds ls a.receiver (length xs) a.least a.first p.costs_value l.s l.from (omega (arith, all)) l.invariant.0
+    fewest_rest a.arcs xs ds ls a.receiver (length xs) a.least a.first p.first_wins l.s l.from (omega (arith, all)) l.invariant.0
     (λ r v from below o. p.alone r v (omega (arith, l.invariant.2)) (omega (arith, all)) below o)

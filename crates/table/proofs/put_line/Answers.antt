@@ -12,7 +12,7 @@ put_fields-end-requires c =
     let n = puts_filled 20 (omega arith) (long_digits c.args.node (omega arith)) c.put_number-next.ensures in
     record {
       node_bound = omega arith;
-      at_in_bounds = filled_room 63 (omega arith) n;
+      room = filled_room 63 (omega arith) n;
     }
 
 pub returns : goal.returns
