@@ -1,6 +1,7 @@
 -- What a chosen row says of the reports it was made from, and what the reports say of it. Only this file and computed
 -- examples open `row_by`, `list_of` and `choice`.
 -- Assumes nothing.
+use Rattle.std.specs.Prelude.{Some}
 use mathlib.Core.Path.{◌≡◌, refl, ap, ap₂, ◌∙◌}
 use mathlib.Core.Bool.{false}
 use mathlib.Core.Logic.{◌≢◌}
@@ -10,9 +11,7 @@ use Rattle.ancestors.specs.Ancestors.{has, put}
 use Rattle.ancestors.proofs.Cases.{clash}
 use Rattle.network.specs.Faults.{max_label}
 use Rattle.network.specs.Network.{root, via, Report, told}
-use Rattle.network.specs.Round.{offer, list_of, ones_in, Winner, nobody, sender, winner, row_by, choice}
-use Rattle.network.specs.declared.Offer.{Offer}
-use Rattle.network.specs.declared.Offer.TheVariants.{Sum}
+use Rattle.network.specs.Round.{Offer, offer, list_of, ones_in, Winner, nobody, sender, winner, row_by, choice}
 use Rattle.network.proofs.Offers.{made, makes, Won, some_one, won, won_once, winner_ext}
 pub use Rattle.network.proofs.Offers.{Made, Before}
 
@@ -67,10 +66,10 @@ module _ (n : ℕ) (cost : ℕ → ℕ) (held : ℕ → Report) (y : ℕ) where
   wins s e l b h apart fits best =
       rw (won_once offered_by ones_by n (winner offered_by ones_by n) (sender s (e + cost s)) (won offered_by ones_by n) (some_one b its before), h)
     where
-      its : offered_by s ≡ Sum (e + cost s)
+      its : offered_by s ≡ Some (e + cost s)
       its = rw h (makes y (cost s) e l apart fits)
 
-      before : (r v : ℕ) → r < n → r ≢ s → offered_by r ≡ Sum v → Before (e + cost s) (ones_by s) s v (ones_by r) r
+      before : (r v : ℕ) → r < n → r ≢ s → offered_by r ≡ Some v → Before (e + cost s) (ones_by s) s v (ones_by r) r
       before r v c ne o =
           let m = made y (cost r) (held r) v o in
           rw (h, m.is) (best r v c ne m)

@@ -1,5 +1,6 @@
 -- What an offer says of its report, and who wins among offers. Only this file and computed examples open `offer`, `goes_before`, `against` and `winner`.
 -- Assumes nothing.
+use Rattle.std.specs.Prelude.{Some, None}
 use mathlib.Core.Path.{◌≡◌, refl, sym, ap₂, subst, ◌∙◌}
 use mathlib.Core.Bool.{true, false, cond, ◌&&◌}
 use mathlib.Core.Logic.{◌⊎◌, inl, inr, ◌≢◌}
@@ -11,9 +12,7 @@ use Rattle.ancestors.specs.Ancestors.{has}
 use Rattle.ancestors.proofs.Cases.{bool_cases, eq_or_ne, and_both, or_neither, clash}
 use Rattle.network.specs.Faults.{max_label}
 use Rattle.network.specs.Network.{Report, empty, told}
-use Rattle.network.specs.Round.{offer, goes_before, Winner, nobody, sender, against, winner}
-use Rattle.network.specs.declared.Offer.{Offer}
-use Rattle.network.specs.declared.Offer.TheVariants.{Nothing, Sum}
+use Rattle.network.specs.Round.{Offer, offer, goes_before, Winner, nobody, sender, against, winner}
 
 -- ---- one offer
 
@@ -27,25 +26,25 @@ pub record Made (y c : ℕ) (h : Report) (v : ℕ) : Type 0 where
   pub fits : v ≤ max_label
 
 -- no offer is both nothing and a sum
-pub nothing_sum : {A : Type 0} {v : ℕ} (o : Offer) → o ≡ Nothing → o ≡ Sum v → A
+pub nothing_sum : {A : Type 0} {v : ℕ} (o : Offer) → o ≡ None → o ≡ Some v → A
 nothing_sum o p q = clash cc
 
 -- a sum comes from a report that makes it
-pub made : (y c : ℕ) (h : Report) (v : ℕ) → offer y c h ≡ Sum v → Made y c h v
+pub made : (y c : ℕ) (h : Report) (v : ℕ) → offer y c h ≡ Some v → Made y c h v
 unfolding offer
-made y c empty v e = nothing_sum Nothing refl e
+made y c empty v e = nothing_sum None refl e
 made y c (told d l) v e = go (bool_cases (has l y)) (bool_cases (ltb max_label (d + c)))
   where
     go : (has l y ≡ true) ⊎ (has l y ≡ false) → (ltb max_label (d + c) ≡ true) ⊎ (ltb max_label (d + c) ≡ false) → Made y c (told d l) v
-    go (inl h) b = nothing_sum Nothing refl (rw h at e)
-    go (inr h) (inl b) = nothing_sum Nothing refl (rw (h, b) at e)
+    go (inl h) b = nothing_sum None refl (rw h at e)
+    go (inr h) (inl b) = nothing_sum None refl (rw (h, b) at e)
     go (inr h) (inr b) =
-        let q : Sum (d + c) ≡ Sum v = rw (h, b) at e in
+        let q : Some (d + c) ≡ Some v = rw (h, b) at e in
         let t : v ≡ d + c = cc in
         record { label = d; list = l; is = refl; apart = h; total = t; fits = omega (arith, ltb-false max_label (d + c) b) }
 
 -- and such a report makes its sum
-pub makes : (y c d l : ℕ) → has l y ≡ false → d + c ≤ max_label → offer y c (told d l) ≡ Sum (d + c)
+pub makes : (y c d l : ℕ) → has l y ≡ false → d + c ≤ max_label → offer y c (told d l) ≡ Some (d + c)
 unfolding offer
 makes y c d l h f = rw (h, le-ltb max_label (d + c) f)
 
@@ -110,8 +109,8 @@ ahead_on (inr a) (inr b) = inr (omega arith, omega arith)
 -- who wins among the offers f of the senders below n, with c the ones by sender: nobody if there is none, else the sender whose offer goes
 -- before all others
 pub data Won (f : ℕ → Offer) (c : ℕ → ℕ) (n : ℕ) : Winner → Type 0 where
-  no_one : ((r : ℕ) → r < n → f r ≡ Nothing) → Won f c n nobody
-  some_one : {s u : ℕ} → s < n → f s ≡ Sum u → ((r v : ℕ) → r < n → r ≢ s → f r ≡ Sum v → Before u (c s) s v (c r) r) → Won f c n (sender s u)
+  no_one : ((r : ℕ) → r < n → f r ≡ None) → Won f c n nobody
+  some_one : {s u : ℕ} → s < n → f s ≡ Some u → ((r v : ℕ) → r < n → r ≢ s → f r ≡ Some v → Before u (c s) s v (c r) r) → Won f c n (sender s u)
 
 module _ (f : ℕ → Offer) (c : ℕ → ℕ) where
   -- a sender below n + 1 is below n, or is n
@@ -123,11 +122,11 @@ module _ (f : ℕ → Offer) (c : ℕ → ℕ) where
       go (inr e) = h (omega (arith, e))
 
   -- a sender makes one sum
-  same_sum : (r n v x : ℕ) → r ≡ n → f n ≡ Sum v → f r ≡ Sum x → v ≡ x
+  same_sum : (r n v x : ℕ) → r ≡ n → f n ≡ Some v → f r ≡ Some x → v ≡ x
   same_sum r n v x e p q = cc
 
   -- sender n's sum v is looked at after s with sum u won below n
-  two_sums : (n s u v : ℕ) → s < n → f s ≡ Sum u → ((r x : ℕ) → r < n → r ≢ s → f r ≡ Sum x → Before u (c s) s x (c r) r) → f n ≡ Sum v →
+  two_sums : (n s u v : ℕ) → s < n → f s ≡ Some u → ((r x : ℕ) → r < n → r ≢ s → f r ≡ Some x → Before u (c s) s x (c r) r) → f n ≡ Some v →
       (goes_before v (c n) u (c s) ≡ true) ⊎ (goes_before v (c n) u (c s) ≡ false) →
       Won f c (suc n) (cond (goes_before v (c n) u (c s)) (sender n v) (sender s u))
   two_sums n s u v b q low e (inl t) =
@@ -135,7 +134,7 @@ module _ (f : ℕ → Offer) (c : ℕ → ℕ) where
       (some_one {s = n} (omega arith) e
       (λ r x h ne p. below_or_last n r h (λ k. inl (first r x k p (eq_or_ne r s))) (λ k. absurd (ne k))))
     where
-      first : (r x : ℕ) → r < n → f r ≡ Sum x → (r ≡ s) ⊎ (r ≢ s) → Ahead v (c n) x (c r)
+      first : (r x : ℕ) → r < n → f r ≡ Some x → (r ≡ s) ⊎ (r ≢ s) → Ahead v (c n) x (c r)
       first r x h p (inl k) = rw (← same_sum r s u x k q p, k) (goes_ahead v (c n) u (c s) t)
       first r x h p (inr k) = ahead_on {s = s} {r = r} (goes_ahead v (c n) u (c s) t) (low r x h k p)
   two_sums n s u v b q low e (inr t) =
@@ -146,12 +145,12 @@ module _ (f : ℕ → Offer) (c : ℕ → ℕ) where
   -- sender n's offer o is looked at after w won below n
   won_step : (n : ℕ) (w : Winner) → Won f c n w → (o : Offer) → f n ≡ o → Won f c (suc n) (against c w n o)
   unfolding against
-  won_step n nobody (no_one h) Nothing e = no_one (λ r b. below_or_last n r b (h r) (λ k. rw k e))
-  won_step n nobody (no_one h) (Sum v) e =
+  won_step n nobody (no_one h) None e = no_one (λ r b. below_or_last n r b (h r) (λ k. rw k e))
+  won_step n nobody (no_one h) (Some v) e =
       some_one {s = n} (omega arith) e (λ r x b ne q. below_or_last n r b (λ k. nothing_sum (f r) (h r k) q) (λ k. absurd (ne k)))
-  won_step n (sender s u) (some_one b q low) Nothing e =
+  won_step n (sender s u) (some_one b q low) None e =
       some_one {s = s} (omega arith) q (λ r x h ne p. below_or_last n r h (λ k. low r x k ne p) (λ k. nothing_sum (f r) (rw k e) p))
-  won_step n (sender s u) (some_one b q low) (Sum v) e = two_sums n s u v b q low e (bool_cases (goes_before v (c n) u (c s)))
+  won_step n (sender s u) (some_one b q low) (Some v) e = two_sums n s u v b q low e (bool_cases (goes_before v (c n) u (c s)))
 
   -- who wins below n
   pub won : (n : ℕ) → Won f c n (winner f c n)
@@ -181,9 +180,9 @@ module _ (f : ℕ → Offer) (c : ℕ → ℕ) where
 against_ext : (c d : ℕ → ℕ) (n k : ℕ) (w : Winner) (o : Offer) (f : ℕ → Offer) → Won f c n w → c k ≡ d k → ((s : ℕ) → s < n → c s ≡ d s) →
     against c w k o ≡ against d w k o
 unfolding against
-against_ext c d n k w Nothing f h p e = refl
-against_ext c d n k nobody (Sum v) f h p e = refl
-against_ext c d n k (sender s u) (Sum v) f (some_one b q low) p e = rw (p, e s b)
+against_ext c d n k w None f h p e = refl
+against_ext c d n k nobody (Some v) f h p e = refl
+against_ext c d n k (sender s u) (Some v) f (some_one b q low) p e = rw (p, e s b)
 
 pub winner_ext : (f g : ℕ → Offer) (c d : ℕ → ℕ) (n : ℕ) → ((s : ℕ) → s < n → f s ≡ g s) → ((s : ℕ) → s < n → c s ≡ d s) →
     winner f c n ≡ winner g d n

@@ -1,4 +1,5 @@
 pub mod Faults
+pub mod Answered
 pub mod Form
 pub mod Network
 pub mod Round

@@ -1,12 +1,10 @@
 -- Document 01, "A round", with request One's order of equal offers: hearing, offers, the choice among them, and the round call with its refusals.
 -- Assumes nothing.
-use Rattle.std.specs.Prelude.{Bool, false, cond, not, ◌&&◌, ◌||◌, List, ℕ, zero, suc, ◌+◌, eqb, ltb, length, get_or}
+use Rattle.std.specs.Prelude.{Bool, false, cond, not, ◌&&◌, ◌||◌, List, Option, Some, None, ℕ, zero, suc, ◌+◌, eqb, ltb, length, get_or}
 use Rattle.std.specs.Int.Count.{ones}
 use Rattle.ancestors.specs.Ancestors.{has, put}
 use Rattle.network.specs.Faults.{max_label, pair_fault_of}
 use Rattle.network.specs.Network.{Row, none, root, via, Report, empty, told, Net, with_rows, with_reports, Outcome, outcome}
-use Rattle.network.specs.declared.Offer.{Offer}
-use Rattle.network.specs.declared.Offer.TheVariants.{Nothing, Sum}
 
 -- ---- hearing
 
@@ -26,11 +24,15 @@ hear m x = with_reports x (λ s r. cond (m s r) (report (x.row s)) (x.held s r))
 
 -- ---- offers
 
+-- an offer: a sum, or none
+abbrev pub Offer : Type 0
+Offer = Option ℕ
+
 -- the offer of a held report to the receiver y over an arc of cost c: none if the report is empty or lists y, or if label plus cost is
 -- above the largest label, else that sum
 unfoldable pub offer : ℕ → ℕ → Report → Offer
-offer y c empty = Nothing
-offer y c (told d l) = cond (has l y || ltb max_label (d + c)) Nothing (Sum (d + c))
+offer y c empty = None
+offer y c (told d l) = cond (has l y || ltb max_label (d + c)) None (Some (d + c))
 
 -- ---- the choice among offers
 
@@ -54,9 +56,9 @@ pub data Winner : Type 0 where
 
 -- the winner once sender k's offer is looked at too, c being the ones by sender: where neither goes before the other the earlier sender stays
 unfoldable pub against : (ℕ → ℕ) → Winner → ℕ → Offer → Winner
-against c w k Nothing = w
-against c nobody k (Sum v) = sender k v
-against c (sender s u) k (Sum v) = cond (goes_before v (c k) u (c s)) (sender k v) (sender s u)
+against c w k None = w
+against c nobody k (Some v) = sender k v
+against c (sender s u) k (Some v) = cond (goes_before v (c k) u (c s)) (sender k v) (sender s u)
 
 -- the least offer of the senders below k wins; among equals the report with fewest ones in its list, and then the lowest-numbered sender
 unfoldable pub winner : (ℕ → Offer) → (ℕ → ℕ) → ℕ → Winner

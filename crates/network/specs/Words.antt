@@ -1,15 +1,14 @@
 -- What the leaf functions get and answer: the arcs of a receiver as a word, reports and costs as slices of words, by sender, an offer below a limit,
--- and the enum of a choice.
+-- and what a choice answers.
 -- Assumes nothing.
-use Rattle.std.specs.Prelude.{Bool, cond, not, ◌||◌, List, ℕ, ◌+◌, ◌%◌, eqb, ltb, leb, length, get_or}
+use Rattle.std.specs.Prelude.{Bool, cond, not, ◌||◌, List, Option, Some, None, Result, Ok, Err, ℕ, ◌+◌, ◌%◌, eqb, ltb, leb, length, get_or}
 use Rattle.ancestors.specs.Ancestors.{has}
 use Rattle.network.specs.Faults.{max_nodes}
 use Rattle.network.specs.Network.{Row, none, via, Report, empty, told}
-use Rattle.network.specs.Round.{offer, ones_in, choice}
-use Rattle.network.specs.declared.Offer.{Offer}
-use Rattle.network.specs.declared.Offer.TheVariants.{Nothing, Sum}
-use Rattle.network.specs.declared.Choice.{Choice}
-use Rattle.network.specs.declared.Choice.TheVariants.{Refused, NoRoute, Route}
+use Rattle.network.specs.Round.{Offer, offer, ones_in, choice}
+use Rattle.network.specs.Answered.{fault_number}
+use Rattle.network.specs.declared.Fault.{Fault}
+use Rattle.network.specs.declared.Route.{Route}
 
 -- a report in two words: a list of 0 stands for the empty report
 unfoldable pub report_of : ℕ → ℕ → Report
@@ -39,8 +38,8 @@ alike s = 0
 
 -- an offer below a limit, and nothing in place of any other
 unfoldable pub offer_below : ℕ → Offer → Offer
-offer_below m Nothing = Nothing
-offer_below m (Sum v) = cond (ltb v m) (Sum v) Nothing
+offer_below m None = None
+offer_below m (Some v) = cond (ltb v m) (Some v) None
 
 -- more than 32 senders, not a cost, a label and a list for each, or a receiver above 31
 unfoldable pub words_fault : List ℕ → List ℕ → List ℕ → ℕ → Bool
@@ -64,8 +63,12 @@ unfoldable pub choose_of : ℕ → List ℕ → List ℕ → List ℕ → ℕ �
 choose_of arcs costs labels lists y =
     cond (words_fault costs labels lists y) refused_choice (chosen (choice (length costs) (costs_of arcs costs) (reports arcs labels lists) y))
 
--- number and row of each case of the enum
-unfoldable pub choice_means : Choice → ChoiceAnswer
-choice_means Refused = refused_choice
-choice_means NoRoute = chosen none
-choice_means (Route d p l) = chosen (via d p l)
+-- a row: no route, or label, predecessor and list
+unfoldable pub row_means : Option Route → Row
+row_means None = none
+row_means (Some w) = via w.label w.predecessor w.list
+
+-- number and row of each answer
+unfoldable pub choice_means : Result (Option Route) Fault → ChoiceAnswer
+choice_means (Ok w) = chosen (row_means w)
+choice_means (Err f) = record { number = fault_number f; row = none }

@@ -1,7 +1,9 @@
 -- What a call that writes bytes answers and leaves in the output.
 -- Assumes nothing.
-use Rattle.std.specs.Prelude.{◌≡◌, cond, List, ◌++◌, ℕ, eqb, length, drop}
-use Rattle.network.specs.declared.Written.{Written}
+use Rattle.std.specs.Prelude.{◌≡◌, cond, List, ◌++◌, Result, ℕ, eqb, length, drop}
+use Rattle.std.specs.Result.{result_unwrap_or}
+use Rattle.network.specs.Answered.{answered}
+use Rattle.network.specs.declared.Fault.{Fault}
 
 -- a number, 0 where the call is accepted, the bytes written, and the output after the call
 pub record Writing : Type 0 where
@@ -15,7 +17,7 @@ writing k bytes out =
     cond (eqb k 0) (record { number = k; used = length bytes; output = bytes ++ drop (length bytes) out }) (record { number = k; used = 0; output = out })
 
 -- the call answered r and left the output `exit`
-pub record Writes (w : Writing) (r : Written) (exit : List ℕ) : Type 0 where
-  pub number : r.number ≡ w.number
-  pub used : r.used ≡ w.used
+pub record Writes (w : Writing) (r : Result ℕ Fault) (exit : List ℕ) : Type 0 where
+  pub number : answered r ≡ w.number
+  pub used : result_unwrap_or r 0 ≡ w.used
   pub output : exit ≡ w.output

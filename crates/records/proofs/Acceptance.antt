@@ -19,6 +19,8 @@ use Rattle.network.proofs.Effects.{frame, fresh_frame, Stays, nodes_stay, origin
 use Rattle.network.proofs.Keeping.{fresh_within}
 use Rattle.network.proofs.Limits.{within_size}
 use Rattle.records.specs.Numbers.{Bytes, be8}
+use Rattle.network.specs.Answered.{fault_number}
+use Rattle.network.specs.declared.Fault.{Fault}
 use Rattle.records.specs.Records.{at_start, in_image, end_record, header_record_of, refused_record, record_of}
 use Rattle.records.specs.Image.{each, row_bytes, report_bytes, image}
 use Rattle.records.specs.Opening.{first_row, first_report, rank_count, Step, stop, finish, onward, placed, Opening, refused_opening, accepted_opening, after_step, read_records_of, started, headed, open_of}
@@ -270,9 +272,9 @@ pub started_header : (bs : List ℕ) (n o : ℕ) → record_of at_start 0 bs ≡
 unfolding open_of started headed
 started_header bs n o e = ap (λ (r : Record). started bs r r.event) e
 
-pub started_stop : (bs : List ℕ) (e : ℕ) → record_of at_start 0 bs ≡ refused_record e 0 → open_of bs ≡ refused_opening e 0
+pub started_stop : (bs : List ℕ) (f : Fault) → record_of at_start 0 bs ≡ refused_record f 0 → open_of bs ≡ refused_opening (fault_number f) 0
 unfolding open_of started headed
-started_stop bs e p = ap (λ (r : Record). started bs r r.event) p
+started_stop bs f p = ap (λ (r : Record). started bs r r.event) p
 
 -- accepted, it is an image
 only_images : (bs : List ℕ) → Bytes bs → (x : Net) (used : ℕ) → open_of bs ≡ accepted_opening x used → IsImage bs x used
@@ -297,7 +299,7 @@ only_images bs by x used q = go (start_shown bs)
         }
 
     go : StartShown bs (record_of at_start 0 bs) → IsImage bs x used
-    go (a_stop e n p) = absurd (n (opening_number e 0 x used (sym (started_stop bs e p) ∙ q)))
+    go (a_stop f n p) = absurd (n (opening_number (fault_number f) 0 x used (sym (started_stop bs f p) ∙ q)))
     go (a_header n o b p e) = by_number (eq_or_ne (fresh_number n o) 0)
       where
         opened : cond (eqb (fresh_number n o) 0) (read_records_of (length bs) (fresh_net n o) 0 3 (drop 3 bs)) (refused_opening (fresh_number n o) 0) ≡ accepted_opening x used

@@ -10,6 +10,9 @@ use borrow.Author.Tests.{eq-eqb, ne_eqb}
 use Rattle.ancestors.proofs.Cases.{eq_or_ne, clash}
 use Rattle.network.specs.Network.{Net, Outcome}
 use Rattle.network.proofs.Effects.{outcome_number}
+use Rattle.network.specs.Answered.{fault_number}
+use Rattle.network.specs.declared.Fault.{Fault}
+use Rattle.network.specs.declared.Fault.TheVariants.{Cut, Kind}
 use Rattle.records.specs.Records.{in_image, as_event, body_of, record_of}
 use Rattle.records.specs.Opening.{Step, stop, finish, onward, placed, after_step, read_records_of}
 use Rattle.records.specs.Running.{event_done, rounds_in, after_event, read_events}
@@ -21,10 +24,10 @@ use Rattle.records.proofs.Reading.{by_outcome, length_within, length_some}
 -- ---- the records of an image
 
 -- a refusal does not lead onward
-pub onward_read : (x : Net) (next : ℕ) (e : Event) (z : Net) (k : ℕ) → onward z k ≡ placed x next e → (i p : ℕ) → e ≢ Refusal i p
+pub onward_read : (x : Net) (next : ℕ) (e : Event) (z : Net) (k : ℕ) → onward z k ≡ placed x next e → (f : Fault) (p : ℕ) → e ≢ Refusal f p
 unfolding placed
-onward_read x next e z k q i p h =
-    let w : onward z k ≡ stop i = q ∙ ap (placed x next) h in
+onward_read x next e z k q f p h =
+    let w : onward z k ≡ stop (fault_number f) = q ∙ ap (placed x next) h in
     clash cc
 
 -- with more than there are bytes
@@ -51,15 +54,15 @@ records_enough (suc k) j x next at bs h =
 -- ---- the events of a run
 
 -- a refusal has its number
-pub refusal_number : (x : Net) (b : List ℕ) (e p : ℕ) → (event_done x b (Refusal e p)).number ≡ e
+pub refusal_number : (x : Net) (b : List ℕ) (f : Fault) (p : ℕ) → (event_done x b (Refusal f p)).number ≡ fault_number f
 unfolding event_done
-refusal_number x b e p = outcome_number e x x
+refusal_number x b f p = outcome_number (fault_number f) x x
 
 -- an accepted event has at least its kind byte
 pub accepted_long : (x : Net) (d : List ℕ) (at : ℕ) (s : List ℕ) → (event_done x d (record_of as_event at s).event).number ≡ 0 → 0 < (record_of as_event at s).used
 accepted_long x d at s =
     by_outcome (λ (r : Record). (event_done x d r.event).number ≡ 0 → 0 < r.used) as_event at s
-    (λ q. omega (arith, refusal_number x d 1 at, q)) (λ q. omega (arith, refusal_number x d 2 at, q)) (λ k b e a h q. omega arith)
+    (λ q. omega (arith, refusal_number x d Cut at, q)) (λ q. omega (arith, refusal_number x d Kind at, q)) (λ k b e a h q. omega arith)
 
 -- no bytes, no event
 pub no_event : (k : ℕ) (x : Net) (n at : ℕ) → read_events k x n at [] ≡ record { number = 0; place = 0; rounds = n; net = x }

@@ -19,6 +19,9 @@ use Rattle.network.proofs.Accepting.{change_accepted, place_row_accepted, place_
 use Rattle.network.proofs.FaultLaws.{cost_free, node_says, pair_says}
 use Rattle.network.proofs.Limits.{within_size, within_row, within_report}
 use Rattle.records.specs.Numbers.{Bytes, num8, num16, num32}
+use Rattle.network.specs.Answered.{fault_number}
+use Rattle.network.specs.declared.Fault.{Fault}
+use Rattle.network.specs.declared.Fault.TheVariants.{Cut, Kind}
 use Rattle.records.specs.Records.{body_length, record_length, in_image, arc_record_of, row_record_of, report_record_of, arc_change, event_of, allowed, body_of, refused_record, record_of}
 use Rattle.records.specs.Image.{row_bytes, report_bytes}
 use Rattle.records.specs.Opening.{first_row, first_report, rank_count, arc_rank, row_rank, report_rank, order_number, arc_number, row_number_of, report_number_of, Step, stop, finish, onward, judged, placed}
@@ -127,10 +130,10 @@ NoneFrom x next = (i : ℕ) → next ≤ i → i < rank_count → rank_bytes x i
 
 module _ (x : Net) (next at : ℕ) (bs : List ℕ) where
   -- what holds of a whole record of each kind that an image has, and of one that is refused, holds of the record read
-  by_image_kind : (P : Record → Type 0) → ((e : ℕ) → e ≢ 0 → P (refused_record e at)) →
+  by_image_kind : (P : Record → Type 0) → ((f : Fault) → fault_number f ≢ 0 → P (refused_record f at)) →
       EachAllowed in_image (λ k. (b : List ℕ) → bs ≡ k ∷ b → body_length k ≤ length b → P (whole_record at k b)) kinds → P (record_of in_image at bs)
   by_image_kind P stopped each =
-      by_outcome P in_image at bs (stopped 1 (λ z. omega arith)) (stopped 2 (λ z. omega arith))
+      by_outcome P in_image at bs (stopped Cut (λ z. omega arith)) (stopped Kind (λ z. omega arith))
       (λ k b e a l. by_allowed in_image (λ k. (b : List ℕ) → bs ≡ k ∷ b → body_length k ≤ length b → P (whole_record at k b)) each k a b e l)
 
   -- only the end record ends
@@ -148,7 +151,7 @@ module _ (x : Net) (next at : ℕ) (bs : List ℕ) where
   pub stop_at : (e : ℕ) → placed x next (record_of in_image at bs).event ≡ stop e → e ≢ 0
   unfolding allowed placed event_of arc_change
   stop_at e =
-      by_image_kind (λ r. placed x next r.event ≡ stop e → e ≢ 0) (λ d n q z. let y : d ≡ e = cc in n (y ∙ z))
+      by_image_kind (λ r. placed x next r.event ≡ stop e → e ≢ 0) (λ f n q z. let y : fault_number f ≡ e = cc in n (y ∙ z))
       (tt & (λ _ _ _ q. clash cc)
       & (λ b _ _. cond_by (λ v. placed x next (E.Change v) ≡ stop e → e ≢ 0) (eqb (num16 (body_of 2 b) 2) 0) _ _
       (λ _ q z. let y : 3 ≡ e = cc in omega arith) (λ _ q. judged_stop _ _ _ e q))

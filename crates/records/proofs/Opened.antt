@@ -14,6 +14,7 @@ use Rattle.network.specs.Network.{Net, Within, fresh_net, fresh_number}
 use Rattle.network.proofs.Accepting.{fresh_free}
 use Rattle.network.proofs.FaultLaws.{size_free}
 use Rattle.records.specs.Numbers.{Bytes}
+use Rattle.network.specs.Answered.{fault_number}
 use Rattle.records.specs.Records.{at_start, in_image, record_of}
 use Rattle.records.specs.Opening.{Step, stop, finish, onward, placed, Opening, refused_opening, accepted_opening, after_step, read_records_of, started, headed, open_of}
 use Rattle.records.specs.declared.Event.{Event}
@@ -46,7 +47,7 @@ pub open_is : (bs : List ℕ) → OpenIs (open_of bs)
 open_is bs = go (start_shown bs)
   where
     go : StartShown bs (record_of at_start 0 bs) → OpenIs (open_of bs)
-    go (a_stop e n p) = refused e 0 n (started_stop bs e p)
+    go (a_stop f n p) = refused (fault_number f) 0 n (started_stop bs f p)
     go (a_header n o b p e) = rw (started_header bs n o e) (by_number (eq_or_ne (fresh_number n o) 0))
       where
         by_number : (fresh_number n o ≡ 0) ⊎ (fresh_number n o ≢ 0) →

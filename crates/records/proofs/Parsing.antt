@@ -11,6 +11,9 @@ use lib.Seq.{drop-cons, get_or-take, get_or-drop, length-take-le}
 use borrow.Author.Tests.{le-ltb, ne_eqb, eqb-true}
 use Rattle.ancestors.proofs.Cases.{cond_by}
 use Rattle.records.specs.Numbers.{Bytes, be8, be16, be32, num8, num16, num32}
+use Rattle.network.specs.Answered.{fault_number}
+use Rattle.network.specs.declared.Fault.{Fault}
+use Rattle.network.specs.declared.Fault.TheVariants.{Cut, Kind}
 use Rattle.records.specs.Records.{at_start, in_image, arc_record_of, row_record_of, report_record_of, body_length, body_of, arc_change, event_of, allowed, refused_record, bodied, record_of}
 use Rattle.records.specs.declared.ArcChange.TheVariants.{Set}
 use Rattle.records.specs.declared.Event.TheVariants.{End, Header, Change, Row, Report}
@@ -132,20 +135,20 @@ report_parse at s r d l rest hs hr hd hl =
 
 pub data StartShown (bs : List ℕ) (r : Record) : Type 0 where
   a_header : (n o : ℕ) (b : List ℕ) → bs ≡ 1 ∷ n ∷ o ∷ b → r ≡ record { event = Header n o; used = 3 } → StartShown bs r
-  a_stop : (e : ℕ) → e ≢ 0 → r ≡ refused_record e 0 → StartShown bs r
+  a_stop : (f : Fault) → fault_number f ≢ 0 → r ≡ refused_record f 0 → StartShown bs r
 
 header_shown : (b : List ℕ) → StartShown (1 ∷ b) (bodied 0 1 b)
 unfolding bodied body_length body_of event_of num8
-header_shown [] = a_stop 1 (λ z. omega arith) refl
-header_shown (n ∷ []) = a_stop 1 (λ z. omega arith) refl
+header_shown [] = a_stop Cut (λ z. omega arith) refl
+header_shown (n ∷ []) = a_stop Cut (λ z. omega arith) refl
 header_shown (n ∷ o ∷ b) = a_header n o b refl (rw (le-ltb (suc (suc (length b))) 2 (omega arith)))
 
 pub start_shown : (bs : List ℕ) → StartShown bs (record_of at_start 0 bs)
 unfolding record_of allowed
-start_shown [] = a_stop 1 (λ z. omega arith) refl
+start_shown [] = a_stop Cut (λ z. omega arith) refl
 start_shown (k ∷ b) =
-    cond_by (StartShown (k ∷ b)) (eqb k 1) (bodied 0 k b) (refused_record 2 0)
-    (λ e. rw (eqb-true k 1 e) (header_shown b)) (λ _. a_stop 2 (λ z. omega arith) refl)
+    cond_by (StartShown (k ∷ b)) (eqb k 1) (bodied 0 k b) (refused_record Kind 0)
+    (λ e. rw (eqb-true k 1 e) (header_shown b)) (λ _. a_stop Kind (λ z. omega arith) refl)
 
 pub header_parse : (n o : ℕ) (b : List ℕ) → record_of at_start 0 (1 ∷ n ∷ o ∷ b) ≡ record { event = Header n o; used = 3 }
 unfolding record_of allowed bodied body_length body_of event_of num8

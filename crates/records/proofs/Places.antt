@@ -13,6 +13,7 @@ use Rattle.network.specs.Network.{Net, fresh_net, fresh_number}
 use Rattle.network.proofs.Effects.{outcome_number, number_of, change_outcome, round_outcome, full_round_outcome}
 use Rattle.network.proofs.Numbers.{test_of_file, first_of_file, fresh_of_file, change_of_file, place_row_of_file, place_report_of_file, round_of_file}
 use Rattle.records.specs.Numbers.{words_in}
+use Rattle.network.specs.Answered.{fault_number}
 use Rattle.records.specs.Records.{at_start, in_image, as_event, body_of, record_of}
 use Rattle.records.specs.Opening.{Step, stop, finish, onward, order_number, arc_number, row_number_of, report_number_of, judged, placed, Opening, after_step, read_records_of, started, headed, open_of}
 use Rattle.records.specs.Running.{event_done, rounds_in, Running, after_event, read_events, run_of}
@@ -107,7 +108,7 @@ done_of_file x b at bs (Change (Set s r c)) q = rw (number_of _ _ _ (change_outc
 done_of_file x b at bs (Change (Removed s r)) q = rw (number_of _ _ _ (change_outcome x s r 0)) (change_of_file x s r 0)
 done_of_file x b at bs Round q = rw (number_of _ _ _ (round_outcome x (words_in 32 b))) (round_of_file x (words_in 32 b))
 done_of_file x b at bs FullRound q = early (omega (arith, number_of _ _ _ (full_round_outcome x)))
-done_of_file x b at bs (Refusal e p) q = early (omega (arith, outcome_number e x x, (expected as_event at bs (Refusal e p) q).2))
+done_of_file x b at bs (Refusal e p) q = early (omega (arith, outcome_number (fault_number e) x x, (expected as_event at bs (Refusal e p) q).2))
 done_of_file x b at bs End q = absurd (expected as_event at bs End q)
 done_of_file x b at bs (Header n o) q = absurd (expected as_event at bs (Header n o) q)
 done_of_file x b at bs (Row y d p l) q = absurd (expected as_event at bs (Row y d p l) q)

@@ -12,6 +12,9 @@ use borrow.Author.Tests.{lt-ltb, le-ltb, ne_eqb, ltb-false}
 use Rattle.ancestors.proofs.Cases.{bool_cases, le_or_lt, eq_or_ne, never, cond_by}
 use Rattle.network.specs.Faults.{grade_fault}
 use Rattle.records.specs.Records.{Section, at_start, in_image, as_event, bodies, body_length, record_length, body_of, grade_change, event_of, allowed, refused_record, bodied, record_of}
+use Rattle.network.specs.Answered.{fault_number}
+use Rattle.network.specs.declared.Fault.{Fault}
+use Rattle.network.specs.declared.Fault.TheVariants.{Cut, Kind}
 use Rattle.records.specs.declared.Event.{Event}
 use Rattle.records.specs.declared.Event.TheVariants.{End, Header, Change, Row, Report, Round, FullRound, Refusal}
 use Rattle.records.specs.declared.Record.{Record}
@@ -85,7 +88,7 @@ abbrev pub whole_record : ℕ → ℕ → List ℕ → Record
 whole_record at k b = record { event = event_of at k (body_of k b); used = record_length k }
 
 -- what holds of a record that is cut, of one whose kind is not allowed and of every whole one holds of the record read
-pub by_outcome : (P : Record → Type 0) (z : Section) (at : ℕ) (bs : List ℕ) → P (refused_record 1 at) → P (refused_record 2 at) →
+pub by_outcome : (P : Record → Type 0) (z : Section) (at : ℕ) (bs : List ℕ) → P (refused_record Cut at) → P (refused_record Kind at) →
     ((k : ℕ) (b : List ℕ) → bs ≡ k ∷ b → allowed z k ≡ true → body_length k ≤ length b → P (whole_record at k b)) → P (record_of z at bs)
 unfolding record_of bodied
 by_outcome P z at [] p q w = p
@@ -103,16 +106,16 @@ length_within z at bs =
     (λ k b e _ h. let l = ap length e in omega arith)
 
 -- a record that is not refused has at least its kind byte
-pub length_some : (z : Section) (at : ℕ) (bs : List ℕ) → ((e p : ℕ) → (record_of z at bs).event ≢ Refusal e p) → 0 < (record_of z at bs).used
+pub length_some : (z : Section) (at : ℕ) (bs : List ℕ) → ((f : Fault) (p : ℕ) → (record_of z at bs).event ≢ Refusal f p) → 0 < (record_of z at bs).used
 length_some z at bs =
-    by_outcome (λ r. ((e p : ℕ) → r.event ≢ Refusal e p) → 0 < r.used) z at bs (λ n. absurd (n 1 at refl)) (λ n. absurd (n 2 at refl))
+    by_outcome (λ r. ((f : Fault) (p : ℕ) → r.event ≢ Refusal f p) → 0 < r.used) z at bs (λ n. absurd (n Cut at refl)) (λ n. absurd (n Kind at refl))
     (λ k b _ _ _ _. omega arith)
 
 -- ---- the events of each section, with the record's length
 
 -- a refusal's place is the record's, and its number is 1, 2 or 3
-abbrev pub RefusedAt : ℕ → ℕ → ℕ → Type 0
-RefusedAt at e p = (p ≡ at) × (0 < e) × (e ≤ 3)
+abbrev pub RefusedAt : ℕ → Fault → ℕ → Type 0
+RefusedAt at f p = (p ≡ at) × (0 < fault_number f) × (fault_number f ≤ 3)
 
 -- first: a header
 abbrev pub StartEvent : ℕ → ℕ → Event → Type 0
@@ -123,7 +126,7 @@ StartEvent at len (Row y d p l) = ⊥
 StartEvent at len (Report s r d l) = ⊥
 StartEvent at len Round = ⊥
 StartEvent at len FullRound = ⊥
-StartEvent at len (Refusal e p) = RefusedAt at e p
+StartEvent at len (Refusal f p) = RefusedAt at f p
 
 -- inside an image: its end, arcs, rows and reports
 abbrev pub ImageEvent : ℕ → ℕ → Event → Type 0
@@ -134,7 +137,7 @@ ImageEvent at len (Row y d p l) = len ≡ 11
 ImageEvent at len (Report s r d l) = len ≡ 11
 ImageEvent at len Round = ⊥
 ImageEvent at len FullRound = ⊥
-ImageEvent at len (Refusal e p) = RefusedAt at e p
+ImageEvent at len (Refusal f p) = RefusedAt at f p
 
 -- after the image: changes, of an arc or a grade, and rounds
 abbrev pub LaterEvent : ℕ → ℕ → Event → Type 0
@@ -145,7 +148,7 @@ LaterEvent at len (Row y d p l) = ⊥
 LaterEvent at len (Report s r d l) = ⊥
 LaterEvent at len Round = len ≡ 129
 LaterEvent at len FullRound = len ≡ 1
-LaterEvent at len (Refusal e p) = RefusedAt at e p
+LaterEvent at len (Refusal f p) = RefusedAt at f p
 
 -- what the event of a record in section z at the place `at` can be, with the record's length
 abbrev pub Expected : Section → ℕ → ℕ → Event → Type 0
@@ -154,10 +157,10 @@ Expected in_image at len e = ImageEvent at len e
 Expected as_event at len e = LaterEvent at len e
 
 -- of a refused record, and of a whole one
-refused_expected : (z : Section) (at e : ℕ) → 0 < e → e ≤ 3 → Expected z at 0 (Refusal e at)
-refused_expected at_start at e a b = (refl, a, b)
-refused_expected in_image at e a b = (refl, a, b)
-refused_expected as_event at e a b = (refl, a, b)
+refused_expected : (z : Section) (at : ℕ) (f : Fault) → 0 < fault_number f → fault_number f ≤ 3 → Expected z at 0 (Refusal f at)
+refused_expected at_start at f a b = (refl, a, b)
+refused_expected in_image at f a b = (refl, a, b)
+refused_expected as_event at f a b = (refl, a, b)
 
 whole_expected : (z : Section) (at : ℕ) (b : List ℕ) (k : ℕ) → allowed z k ≡ true → Expected z at (record_length k) (event_of at k b)
 unfolding allowed body_length event_of grade_change
@@ -173,7 +176,7 @@ pub expected : (z : Section) (at : ℕ) (bs : List ℕ) (e : Event) → (record_
 expected z at bs e q =
     subst (Expected z at (record_of z at bs).used) q
     (by_outcome (λ r. Expected z at r.used r.event) z at bs
-    (refused_expected z at 1 (omega arith) (omega arith)) (refused_expected z at 2 (omega arith) (omega arith))
+    (refused_expected z at Cut (omega arith) (omega arith)) (refused_expected z at Kind (omega arith) (omega arith))
     (λ k b _ a _. whole_expected z at (body_of k b) k a))
 
 -- ---- a round

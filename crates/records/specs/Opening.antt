@@ -3,6 +3,7 @@
 use Rattle.std.specs.Prelude.{cond, List, ℕ, zero, suc, ◌+◌, ◌*◌, eqb, ltb, length, drop}
 use Rattle.network.specs.Faults.{max_nodes, pair_count, node_fault, pair_fault_of, first_number}
 use Rattle.network.specs.Network.{via, told, Net, with_row, with_held, fresh_net, fresh_number}
+use Rattle.network.specs.Answered.{fault_number}
 use Rattle.network.specs.Placing.{place_row_number, place_report_number}
 use Rattle.network.specs.Change.{changed, change_number}
 use Rattle.records.specs.Records.{at_start, in_image, record_of}
@@ -73,7 +74,7 @@ placed x next (Row y d p l) = judged (row_number_of x next y d p l) (with_row x 
 placed x next (Report s r d l) = judged (report_number_of x next s r d l) (with_held x s r (told d l)) (report_rank s r)
 placed x next Round = stop 2
 placed x next FullRound = stop 2
-placed x next (Refusal e p) = stop e
+placed x next (Refusal f p) = stop (fault_number f)
 
 -- ---- opening
 
@@ -113,7 +114,7 @@ headed bs k n o = cond (eqb (fresh_number n o) 0) (read_records_of (length bs) (
 -- the first record, then the others; other kinds were refused as 2 when the record was read
 unfoldable pub started : List ℕ → Record → Event → Opening
 started bs r (Header n o) = headed bs r.used n o
-started bs r (Refusal e p) = refused_opening e p
+started bs r (Refusal f p) = refused_opening (fault_number f) p
 started bs r End = refused_opening 2 0
 started bs r (Change c) = refused_opening 2 0
 started bs r (Row y d p l) = refused_opening 2 0

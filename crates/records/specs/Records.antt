@@ -3,6 +3,8 @@
 use Rattle.std.specs.Prelude.{Bool, cond, ◌||◌, ◌&&◌, List, [], ◌∷◌, ◌++◌, ℕ, suc, eqb, ltb, length, get_or, take}
 use Rattle.network.specs.Faults.{grade_fault}
 use Rattle.network.specs.Change.{grade_cost_of}
+use Rattle.network.specs.declared.Fault.{Fault}
+use Rattle.network.specs.declared.Fault.TheVariants.{Cut, Kind, Range}
 use Rattle.records.specs.Numbers.{be8, be16, be32, num8, num16, num32}
 use Rattle.records.specs.declared.ArcChange.{ArcChange}
 use Rattle.records.specs.declared.ArcChange.TheVariants.{Set, Removed}
@@ -52,7 +54,7 @@ arc_change s r c = cond (eqb c 0) (Removed s r) (Set s r c)
 
 -- a grade stands for its cost; 3 for a grade above 15
 unfoldable pub grade_change : ℕ → ℕ → ℕ → ℕ → Event
-grade_change at s r g = cond (grade_fault g) (Refusal 3 at) (Change (arc_change s r (grade_cost_of g)))
+grade_change at s r g = cond (grade_fault g) (Refusal Range at) (Change (arc_change s r (grade_cost_of g)))
 
 -- the event of a record of kind k, 0 to 7, with the body b and the place `at`
 unfoldable pub event_of : ℕ → ℕ → List ℕ → Event
@@ -83,16 +85,16 @@ unfoldable pub body_of : ℕ → List ℕ → List ℕ
 body_of k b = take (body_length k) b
 
 -- a record refused before its body is read
-abbrev pub refused_record : ℕ → ℕ → Record
-refused_record e at = record { event = Refusal e at; used = 0 }
+abbrev pub refused_record : Fault → ℕ → Record
+refused_record f at = record { event = Refusal f at; used = 0 }
 
 -- a record of kind k before the bytes b: 1 for a short body
 unfoldable pub bodied : ℕ → ℕ → List ℕ → Record
 bodied at k b =
-    cond (ltb (length b) (body_length k)) (refused_record 1 at)
+    cond (ltb (length b) (body_length k)) (refused_record Cut at)
     (record { event = event_of at k (body_of k b); used = record_length k })
 
 -- the record at the front of the bytes that begin at the place `at`: missing kind byte 1, then 2, short body 1
 unfoldable pub record_of : Section → ℕ → List ℕ → Record
-record_of z at [] = refused_record 1 at
-record_of z at (k ∷ b) = cond (allowed z k) (bodied at k b) (refused_record 2 at)
+record_of z at [] = refused_record Cut at
+record_of z at (k ∷ b) = cond (allowed z k) (bodied at k b) (refused_record Kind at)

@@ -2,6 +2,7 @@
 -- Assumes nothing.
 use Rattle.std.specs.Prelude.{cond, List, [], ◌∷◌, ℕ, zero, suc, ◌+◌, eqb, length, drop}
 use Rattle.network.specs.Network.{Net, Outcome, outcome}
+use Rattle.network.specs.Answered.{fault_number}
 use Rattle.network.specs.Change.{change_of}
 use Rattle.network.specs.Round.{round_of, full_round_of}
 use Rattle.records.specs.Numbers.{words_in}
@@ -18,7 +19,7 @@ event_done x b (Change (Set s r c)) = change_of x s r c
 event_done x b (Change (Removed s r)) = change_of x s r 0
 event_done x b Round = round_of x (words_in 32 b)
 event_done x b FullRound = full_round_of x
-event_done x b (Refusal e p) = outcome e x x
+event_done x b (Refusal f p) = outcome (fault_number f) x x
 event_done x b End = outcome 2 x x
 event_done x b (Header n o) = outcome 2 x x
 event_done x b (Row y d p l) = outcome 2 x x

@@ -1,5 +1,8 @@
-// State files: the bytes of each kind, and what reading a record finds. Definitions in specs/, the acceptance theorem in proofs/. There are no functions.
+// State files: the bytes of each kind, what reading a record finds, and with what an input is refused. Definitions in specs/, the acceptance theorem in
+// proofs/. There are no functions.
 #![tactic(auto)]
+
+use network::Fault;
 
 // The body bytes of each kind that has a body.
 pub const HEADER_BODY: usize = 2;
@@ -28,7 +31,7 @@ pub enum ArcChange {
     },
 }
 
-// A record that was read: a change, a round or a refusal with its number and place, and what else an image has.
+// A record that was read: a change, a round or a refusal with its fault and place, and what else an image has.
 #[derive(Drop)]
 pub enum Event {
     End,
@@ -53,7 +56,7 @@ pub enum Event {
     Round,
     FullRound,
     Refusal {
-        number: u8,
+        fault: Fault,
         place: usize,
     },
 }
@@ -63,4 +66,11 @@ pub enum Event {
 pub struct Record {
     pub event: Event,
     pub used: usize,
+}
+
+// With what an input is refused, and where.
+#[derive(Clone, Copy, PartialEq, Eq)]
+pub struct Stop {
+    pub fault: Fault,
+    pub place: usize,
 }

@@ -1,6 +1,7 @@
 -- The winner as two loops find it: the first sets the least sum, above the largest label where there is none, and the first sender that offers it;
 -- the second goes on from there among the senders that offer it too.
 -- Assumes nothing.
+use Rattle.std.specs.Prelude.{Some, None}
 use mathlib.Core.Path.{◌≡◌, refl, sym, ap, subst, ◌∙◌}
 use mathlib.Core.Bool.{Bool, true, false, cond, ◌||◌}
 use mathlib.Core.Logic.{◌⊎◌, inl, inr, ◌≢◌}
@@ -17,54 +18,52 @@ use Rattle.ancestors.proofs.Cases.{le_or_lt, eq_or_ne, bool_cases, clash}
 use Rattle.ancestors.proofs.Laws.{ones_count}
 use Rattle.network.specs.Faults.{max_label}
 use Rattle.network.specs.Network.{none, via, empty, told}
-use Rattle.network.specs.Round.{offer, list_of, goes_before, Winner, nobody, sender, against, winner, row_by, choice}
+use Rattle.network.specs.Round.{Offer, offer, list_of, goes_before, Winner, nobody, sender, against, winner, row_by, choice}
 use Rattle.network.specs.Words.{report_of, cost_of, reports, costs_of, offers_of, ones_of, alike, offer_below}
 use Rattle.network.proofs.Offers.{nothing_sum, made, Before, Won, no_one, some_one, won, won_once}
-use Rattle.network.specs.declared.Offer.{Offer}
-use Rattle.network.specs.declared.Offer.TheVariants.{Nothing, Sum}
 use Rattle.rule.specs.Passed.{winner_of, Alone, Passed}
 
 -- ---- an offer below a limit
 
 -- what an answer of nothing and one of a sum say of the offer
-below_nothing : (m : ℕ) (o : Offer) → offer_below m o ≡ Nothing → (o ≡ Nothing) ⊎ ((v : ℕ) × (o ≡ Sum v) × (m ≤ v))
+below_nothing : (m : ℕ) (o : Offer) → offer_below m o ≡ None → (o ≡ None) ⊎ ((v : ℕ) × (o ≡ Some v) × (m ≤ v))
 unfolding offer_below
-below_nothing m Nothing e = inl refl
-below_nothing m (Sum v) e = go (bool_cases (ltb v m))
+below_nothing m None e = inl refl
+below_nothing m (Some v) e = go (bool_cases (ltb v m))
   where
-    go : (ltb v m ≡ true) ⊎ (ltb v m ≡ false) → (Sum v ≡ Nothing) ⊎ ((u : ℕ) × (Sum v ≡ Sum u) × (m ≤ u))
-    go (inl t) = let q : Sum v ≡ Nothing = rw t at e in clash cc
+    go : (ltb v m ≡ true) ⊎ (ltb v m ≡ false) → (Some v ≡ None) ⊎ ((u : ℕ) × (Some v ≡ Some u) × (m ≤ u))
+    go (inl t) = let q : Some v ≡ None = rw t at e in clash cc
     go (inr t) = inr (v, refl, ltb-false v m t)
 
-below_sum : (m : ℕ) (o : Offer) (v : ℕ) → offer_below m o ≡ Sum v → (o ≡ Sum v) × (v < m)
+below_sum : (m : ℕ) (o : Offer) (v : ℕ) → offer_below m o ≡ Some v → (o ≡ Some v) × (v < m)
 unfolding offer_below
-below_sum m Nothing v e = clash cc
-below_sum m (Sum u) v e = go (bool_cases (ltb u m))
+below_sum m None v e = clash cc
+below_sum m (Some u) v e = go (bool_cases (ltb u m))
   where
-    go : (ltb u m ≡ true) ⊎ (ltb u m ≡ false) → (Sum u ≡ Sum v) × (v < m)
+    go : (ltb u m ≡ true) ⊎ (ltb u m ≡ false) → (Some u ≡ Some v) × (v < m)
     go (inl t) =
-        let q : Sum u ≡ Sum v = rw t at e in
+        let q : Some u ≡ Some v = rw t at e in
         let same : u ≡ v = cc in
         (q, omega (arith, ltb-true u m t))
-    go (inr t) = let q : Nothing ≡ Sum v = rw t at e in clash cc
+    go (inr t) = let q : None ≡ Some v = rw t at e in clash cc
 
 -- ---- one sender more
 
 -- the winner among the senders below s and s itself, by its offer
 module _ (f : ℕ → Offer) (c : ℕ → ℕ) (s b p : ℕ) (e : winner f c s ≡ winner_of b p) where
-  winner_skips : f s ≡ Nothing → winner f c (s + 1) ≡ winner_of b p
+  winner_skips : f s ≡ None → winner f c (s + 1) ≡ winner_of b p
   unfolding winner against
   winner_skips o = rw (add-one, o) e
 
-  winner_takes : (v : ℕ) → f s ≡ Sum v → v ≤ max_label → (b ≤ max_label → goes_before v (c s) b (c p) ≡ true) → winner f c (s + 1) ≡ winner_of v s
+  winner_takes : (v : ℕ) → f s ≡ Some v → v ≤ max_label → (b ≤ max_label → goes_before v (c s) b (c p) ≡ true) → winner f c (s + 1) ≡ winner_of v s
   unfolding winner against winner_of
   winner_takes v o h t = rw (add-one, o, e, le-leb v max_label h) (go (le_or_lt b max_label))
     where
-      go : (b ≤ max_label) ⊎ (max_label < b) → against c (cond (leb b max_label) (sender p b) nobody) s (Sum v) ≡ sender s v
+      go : (b ≤ max_label) ⊎ (max_label < b) → against c (cond (leb b max_label) (sender p b) nobody) s (Some v) ≡ sender s v
       go (inl k) = rw (le-leb b max_label k, t k)
       go (inr k) = rw (lt-leb b max_label k)
 
-  winner_leaves : (v : ℕ) → f s ≡ Sum v → b ≤ max_label → goes_before v (c s) b (c p) ≡ false → winner f c (s + 1) ≡ winner_of b p
+  winner_leaves : (v : ℕ) → f s ≡ Some v → b ≤ max_label → goes_before v (c s) b (c p) ≡ false → winner f c (s + 1) ≡ winner_of b p
   unfolding winner against winner_of
   winner_leaves v o k t = rw (add-one, o, e, le-leb b max_label k, t)
 
@@ -92,7 +91,7 @@ list_of_words d l = go (eq_or_ne l 0)
     go (inr n) = rw (ne_eqb l 0 n)
 
 -- an offer of two words is label plus cost
-sum_is : (y c d l v : ℕ) → offer y c (report_of d l) ≡ Sum v → v ≡ d + c
+sum_is : (y c d l v : ℕ) → offer y c (report_of d l) ≡ Some v → v ≡ d + c
 unfolding report_of
 sum_is y c d l v o =
     let m = made y c (report_of d l) v o in
@@ -112,11 +111,11 @@ module _ (arcs : ℕ) (costs labels lists : List ℕ) (y : ℕ) where
   g = ones_of arcs labels lists
 
   -- an offer is at most the largest label
-  small : (s v : ℕ) → f s ≡ Sum v → v ≤ max_label
+  small : (s v : ℕ) → f s ≡ Some v → v ≤ max_label
   small s v o = (made y (costs_of arcs costs s) (reports arcs labels lists s) v o).fits
 
   -- it comes over an arc, and is label plus cost
-  over_arc : (s v : ℕ) → f s ≡ Sum v → (has arcs s ≡ true) × (v ≡ get_or labels s 0 + cost_of (get_or costs s 0))
+  over_arc : (s v : ℕ) → f s ≡ Some v → (has arcs s ≡ true) × (v ≡ get_or labels s 0 + cost_of (get_or costs s 0))
   over_arc s v o = go (bool_cases (has arcs s))
     where
       go : (has arcs s ≡ true) ⊎ (has arcs s ≡ false) → (has arcs s ≡ true) × (v ≡ get_or labels s 0 + cost_of (get_or costs s 0))
@@ -132,11 +131,11 @@ module _ (arcs : ℕ) (costs labels lists : List ℕ) (y : ℕ) where
   ones_of_nodes s k h fits e = e ∙ sym (ones_count 32 (get_or lists s 0) fits) ∙ ap ones (sym (list_over_arc s h))
 
   -- an offer below a limit comes over an arc
-  pub below_arc : (m s v : ℕ) → offer_below m (f s) ≡ Sum v → has arcs s ≡ true
+  pub below_arc : (m s v : ℕ) → offer_below m (f s) ≡ Some v → has arcs s ≡ true
   below_arc m s v h = (over_arc s v (below_sum m (f s) v h).0).0
 
   -- and is not 0
-  pub below_positive : (m s v : ℕ) → offer_below m (f s) ≡ Sum v → 0 < v
+  pub below_positive : (m s v : ℕ) → offer_below m (f s) ≡ Some v → 0 < v
   unfolding cost_of
   below_positive m s v h = omega (arith, (over_arc s v (below_sum m (f s) v h).0).1)
 
@@ -158,10 +157,10 @@ module _ (arcs : ℕ) (costs labels lists : List ℕ) (y : ℕ) where
 
   module _ (s b p : ℕ) (e : winner f alike s ≡ winner_of b p) where
     -- an offer that is not below the least sum is passed
-    pub first_pass : offer_below b (f s) ≡ Nothing → winner f alike (s + 1) ≡ winner_of b p
+    pub first_pass : offer_below b (f s) ≡ None → winner f alike (s + 1) ≡ winner_of b p
     first_pass h = go (below_nothing b (f s) h)
       where
-        go : (f s ≡ Nothing) ⊎ ((v : ℕ) × (f s ≡ Sum v) × (b ≤ v)) → winner f alike (s + 1) ≡ winner_of b p
+        go : (f s ≡ None) ⊎ ((v : ℕ) × (f s ≡ Some v) × (b ≤ v)) → winner f alike (s + 1) ≡ winner_of b p
         go (inl o) = winner_skips f alike s b p e o
         go (inr (v, o, k)) = winner_leaves f alike s b p e v o (omega (arith, small s v o)) (not_less (eq_or_ne v b))
           where
@@ -170,18 +169,18 @@ module _ (arcs : ℕ) (costs labels lists : List ℕ) (y : ℕ) where
             not_less (inr q) = before_greater v 0 b 0 (omega (arith, q))
 
     -- and one below it is taken
-    pub first_take : (v : ℕ) → offer_below b (f s) ≡ Sum v → (winner f alike (s + 1) ≡ winner_of v s) × (v ≤ max_label)
+    pub first_take : (v : ℕ) → offer_below b (f s) ≡ Some v → (winner f alike (s + 1) ≡ winner_of v s) × (v ≤ max_label)
     first_take v h =
         let o = below_sum b (f s) v h in
         let k = small s v o.0 in
         (winner_takes f alike s b p e v o.0 k (λ _. before_lesser v 0 b 0 o.1), k)
 
   -- passed with another sum than b, it leaves p and l alone
-  pub alone_pass : (s b p l : ℕ) → Alone arcs costs labels lists y b p l s → offer_below b (f s) ≡ Nothing
+  pub alone_pass : (s b p l : ℕ) → Alone arcs costs labels lists y b p l s → offer_below b (f s) ≡ None
       → get_or labels s 0 + cost_of (get_or costs s 0) ≢ b → Alone arcs costs labels lists y b p l (s + 1)
   alone_pass s b p l before h apart r v after beyond below o = go (eq_or_ne r s)
     where
-      last : f s ≡ Sum v → (f s ≡ Nothing) ⊎ ((u : ℕ) × (f s ≡ Sum u) × (b ≤ u)) → b < v
+      last : f s ≡ Some v → (f s ≡ None) ⊎ ((u : ℕ) × (f s ≡ Some u) × (b ≤ u)) → b < v
       last q (inl n) = nothing_sum (f s) n q
       last q (inr (u, t, k)) =
           let same : u ≡ v = cc in
@@ -189,11 +188,11 @@ module _ (arcs : ℕ) (costs labels lists : List ℕ) (y : ℕ) where
           omega (arith, apart)
 
       go : (r ≡ s) ⊎ (r ≢ s) → b < v
-      go (inl e) = let q : f s ≡ Sum v = rw e at o in last q (below_nothing b (f s) h)
+      go (inl e) = let q : f s ≡ Some v = rw e at o in last q (below_nothing b (f s) h)
       go (inr e) = before r v after beyond (omega (arith, e)) o
 
   -- a sender without an arc offers nothing
-  absent_nothing : (s : ℕ) → has arcs s ≡ false → f s ≡ Nothing
+  absent_nothing : (s : ℕ) → has arcs s ≡ false → f s ≡ None
   unfolding offer
   absent_nothing s e = rw e
 
@@ -211,7 +210,7 @@ module _ (arcs : ℕ) (costs labels lists : List ℕ) (y : ℕ) where
         only = λ r v after beyond below o. go known.only r v after beyond below o (eq_or_ne r s);
       }
     where
-      go : Alone arcs costs labels lists y (m + 1) p l s → (r v : ℕ) → p < r → l < r → r < s + 1 → f r ≡ Sum v → (r ≡ s) ⊎ (r ≢ s) → m + 1 < v
+      go : Alone arcs costs labels lists y (m + 1) p l s → (r v : ℕ) → p < r → l < r → r < s + 1 → f r ≡ Some v → (r ≡ s) ⊎ (r ≢ s) → m + 1 < v
       go before r v after beyond below o (inl q) = nothing_sum (f s) (absent_nothing s e) (rw q at o)
       go before r v after beyond below o (inr q) = before r v after beyond (omega (arith, q)) o
 
@@ -239,11 +238,11 @@ module _ (arcs : ℕ) (costs labels lists : List ℕ) (y : ℕ) where
         go (some_one below its low) = small p b its
 
     -- no offer is less
-    none_less : (r v : ℕ) → r < n → f r ≡ Sum v → b ≤ v
+    none_less : (r v : ℕ) → r < n → f r ≡ Some v → b ≤ v
     none_less r v h o = go first_won (eq_or_ne r p)
       where
         go : Won f alike n (sender p b) → (r ≡ p) ⊎ (r ≢ p) → b ≤ v
-        go (some_one below its low) (inl q) = let its' : f r ≡ Sum b = rw q its in let same : b ≡ v = cc in omega arith
+        go (some_one below its low) (inl q) = let its' : f r ≡ Some b = rw q its in let same : b ≡ v = cc in omega arith
         go (some_one below its low) (inr q) = least (low r v h q o)
           where
             least : Before b 0 p v 0 r → b ≤ v
@@ -252,7 +251,7 @@ module _ (arcs : ℕ) (costs labels lists : List ℕ) (y : ℕ) where
             least (inr a) = omega arith
 
     -- a lower sender offers more
-    more_before : (r v : ℕ) → r < p → f r ≡ Sum v → b < v
+    more_before : (r v : ℕ) → r < p → f r ≡ Some v → b < v
     more_before r v h o = go first_won
       where
         less : Before b 0 p v 0 r → b < v
@@ -267,7 +266,7 @@ module _ (arcs : ℕ) (costs labels lists : List ℕ) (y : ℕ) where
     pub alone_wins : (l : ℕ) → l ≤ p → Alone arcs costs labels lists y b p l n → winner f g n ≡ sender p b
     alone_wins l near alone = won_once f g n (winner f g n) (sender p b) (won f g n) (go first_won)
       where
-        more : (r v : ℕ) → r < n → r ≢ p → f r ≡ Sum v → (r ≤ p) ⊎ (p < r) → b < v
+        more : (r v : ℕ) → r < n → r ≢ p → f r ≡ Some v → (r ≤ p) ⊎ (p < r) → b < v
         more r v h q o (inl k) = more_before r v (omega (arith, q)) o
         more r v h q o (inr k) = alone r v k (omega arith) h o
 
@@ -285,42 +284,42 @@ module _ (arcs : ℕ) (costs labels lists : List ℕ) (y : ℕ) where
 
     module _ (s q : ℕ) (below : s < n) (w : winner f g s ≡ winner_of b q) where
       -- a greater offer is passed
-      pub fewest_pass : offer_below (b + 1) (f s) ≡ Nothing → winner f g (s + 1) ≡ winner_of b q
+      pub fewest_pass : offer_below (b + 1) (f s) ≡ None → winner f g (s + 1) ≡ winner_of b q
       fewest_pass h = go (below_nothing (b + 1) (f s) h)
         where
-          go : (f s ≡ Nothing) ⊎ ((v : ℕ) × (f s ≡ Sum v) × (b + 1 ≤ v)) → winner f g (s + 1) ≡ winner_of b q
+          go : (f s ≡ None) ⊎ ((v : ℕ) × (f s ≡ Some v) × (b + 1 ≤ v)) → winner f g (s + 1) ≡ winner_of b q
           go (inl o) = winner_skips f g s b q w o
           go (inr (v, o, k)) = winner_leaves f g s b q w v o least_fits (before_greater v (g s) b (g q) (omega arith))
 
       -- any other is an equal one
-      same_sum : (v : ℕ) → offer_below (b + 1) (f s) ≡ Sum v → f s ≡ Sum b
+      same_sum : (v : ℕ) → offer_below (b + 1) (f s) ≡ Some v → f s ≡ Some b
       same_sum v h =
           let o = below_sum (b + 1) (f s) v h in
           let same : v ≡ b = omega (arith, o.1, none_less s v below o.0) in
           rw (← same) o.0
 
       -- of equal offers that of fewer ones is taken
-      pub fewest_take : (v : ℕ) → offer_below (b + 1) (f s) ≡ Sum v → g s < g q → winner f g (s + 1) ≡ winner_of b s
+      pub fewest_take : (v : ℕ) → offer_below (b + 1) (f s) ≡ Some v → g s < g q → winner f g (s + 1) ≡ winner_of b s
       fewest_take v h few = winner_takes f g s b q w b (same_sum v h) least_fits (λ _. before_equal b (g s) b (g q) refl ∙ lt-ltb (g s) (g q) few)
 
-      pub fewest_leave : (v : ℕ) → offer_below (b + 1) (f s) ≡ Sum v → g q ≤ g s → winner f g (s + 1) ≡ winner_of b q
+      pub fewest_leave : (v : ℕ) → offer_below (b + 1) (f s) ≡ Some v → g q ≤ g s → winner f g (s + 1) ≡ winner_of b q
       fewest_leave v h few = winner_leaves f g s b q w b (same_sum v h) least_fits (before_equal b (g s) b (g q) refl ∙ le-ltb (g s) (g q) few)
 
     -- where all the offers that follow are greater, the winner stays
-    fewest_one : (s q : ℕ) → winner f g s ≡ winner_of b q → ((v : ℕ) → f s ≡ Sum v → b < v) → winner f g (s + 1) ≡ winner_of b q
+    fewest_one : (s q : ℕ) → winner f g s ≡ winner_of b q → ((v : ℕ) → f s ≡ Some v → b < v) → winner f g (s + 1) ≡ winner_of b q
     fewest_one s q w more = go (f s) refl
       where
         go : (o : Offer) → f s ≡ o → winner f g (s + 1) ≡ winner_of b q
-        go Nothing o = winner_skips f g s b q w o
-        go (Sum v) o = winner_leaves f g s b q w v o least_fits (before_greater v (g s) b (g q) (more v o))
+        go None o = winner_skips f g s b q w o
+        go (Some v) o = winner_leaves f g s b q w v o least_fits (before_greater v (g s) b (g q) (more v o))
 
-    fewest_some : (j s q : ℕ) → winner f g s ≡ winner_of b q → ((r v : ℕ) → s ≤ r → r < s + j → f r ≡ Sum v → b < v) → winner f g (s + j) ≡ winner_of b q
+    fewest_some : (j s q : ℕ) → winner f g s ≡ winner_of b q → ((r v : ℕ) → s ≤ r → r < s + j → f r ≡ Some v → b < v) → winner f g (s + j) ≡ winner_of b q
     fewest_some zero s q w more = subst (λ k. winner f g k ≡ winner_of b q) (omega arith) w
     fewest_some (suc j) s q w more =
         subst (λ k. winner f g k ≡ winner_of b q) (omega arith)
         (fewest_one (s + j) q (fewest_some j s q w (λ r v from below. more r v from (omega arith))) (λ v. more (s + j) v (omega arith) (omega arith)))
 
-    pub fewest_rest : (s q : ℕ) → s ≤ n → winner f g s ≡ winner_of b q → ((r v : ℕ) → s ≤ r → r < n → f r ≡ Sum v → b < v) → winner f g n ≡ sender q b
+    pub fewest_rest : (s q : ℕ) → s ≤ n → winner f g s ≡ winner_of b q → ((r v : ℕ) → s ≤ r → r < n → f r ≡ Some v → b < v) → winner f g n ≡ sender q b
     unfolding winner_of
     fewest_rest s q h w more =
         let e : s + (n - s) ≡ n = omega arith in
@@ -356,40 +355,40 @@ module _ (arcs s y c d l m : ℕ) where
   abbrev Makes : Offer → Type 0
   Makes o = o ≡ offer_below m (offer y (cond (has arcs s) c 0) (cond (has arcs s) (report_of d l) empty))
 
-  pub offer_absent : has arcs s ≡ false → Makes Nothing
+  pub offer_absent : has arcs s ≡ false → Makes None
   unfolding offer offer_below
   offer_absent e = rw e
 
   -- what makes nothing over an arc makes nothing
-  offer_either : Nothing ≡ offer_below m (offer y c (report_of d l)) → Makes Nothing
+  offer_either : None ≡ offer_below m (offer y c (report_of d l)) → Makes None
   offer_either e = go (bool_cases (has arcs s))
     where
-      go : (has arcs s ≡ true) ⊎ (has arcs s ≡ false) → Makes Nothing
+      go : (has arcs s ≡ true) ⊎ (has arcs s ≡ false) → Makes None
       go (inl t) = rw t e
       go (inr t) = offer_absent t
 
   -- an empty report, or too large a sum
-  pub offer_empty : l ≡ 0 → Makes Nothing
+  pub offer_empty : l ≡ 0 → Makes None
   unfolding offer report_of offer_below
   offer_empty e = offer_either (rw (eq-eqb l 0 e))
 
-  pub offer_large : m ≤ d + c → Makes Nothing
+  pub offer_large : m ≤ d + c → Makes None
   unfolding offer report_of offer_below
   offer_large h = go (eq_or_ne l 0)
     where
-      dear : (t : Bool) → Nothing ≡ offer_below m (cond t Nothing (Sum (d + c)))
+      dear : (t : Bool) → None ≡ offer_below m (cond t None (Some (d + c)))
       dear true = refl
       dear false = rw (le-ltb (d + c) m h)
 
-      go : (l ≡ 0) ⊎ (l ≢ 0) → Makes Nothing
+      go : (l ≡ 0) ⊎ (l ≢ 0) → Makes None
       go (inl e) = offer_empty e
       go (inr e) = offer_either (rw (ne_eqb l 0 e) (dear (has l y || ltb max_label (d + c))))
 
   module _ (n : l ≢ 0) where
-    pub offer_listed : has l y ≡ true → Makes Nothing
+    pub offer_listed : has l y ≡ true → Makes None
     unfolding offer report_of offer_below
     offer_listed h = offer_either (rw (ne_eqb l 0 n, h))
 
-    pub offer_sum : has l y ≡ false → has arcs s ≡ true → m ≤ max_label + 1 → d + c < m → Makes (Sum (d + c))
+    pub offer_sum : has l y ≡ false → has arcs s ≡ true → m ≤ max_label + 1 → d + c < m → Makes (Some (d + c))
     unfolding offer report_of offer_below
     offer_sum a t fits h = rw (t, ne_eqb l 0 n, a, le-ltb max_label (d + c) (omega arith), lt-ltb (d + c) m h)

@@ -17,6 +17,9 @@ use Rattle.network.specs.Change.{grade_cost_of}
 use Rattle.network.proofs.Effects.{outcome_number, outcome_same}
 use Rattle.network.specs.Round.{Marks, marked}
 use Rattle.records.specs.Numbers.{Bytes}
+use Rattle.network.specs.Answered.{fault_number}
+use Rattle.network.specs.declared.Fault.{Fault}
+use Rattle.network.specs.declared.Fault.TheVariants.{Cut, Kind, Range}
 use Rattle.records.specs.Records.{body_length, record_length, arc_change, grade_change, event_of, as_event, allowed, body_of, refused_record, bodied, record_of}
 use Rattle.records.specs.Opening.{open_of}
 use Rattle.records.specs.Running.{event_done, rounds_in, Running, after_event, read_events, run_of}
@@ -43,7 +46,7 @@ record SameDone (x : Net) (b : List ℕ) (e : Event) (c : Call) : Type 0 where
 no_round : (at s r g : ℕ) → 0 ≡ rounds_in (grade_change at s r g)
 unfolding grade_change rounds_in
 no_round at s r g =
-    cond_by (λ (e : Event). 0 ≡ rounds_in e) (grade_fault g) (Refusal 3 at) (Change (arc_change s r (grade_cost_of g))) (λ _. refl) (λ _. refl)
+    cond_by (λ (e : Event). 0 ≡ rounds_in e) (grade_fault g) (Refusal Range at) (Change (arc_change s r (grade_cost_of g))) (λ _. refl) (λ _. refl)
 
 same_done : (x : Net) (at : ℕ) (b : List ℕ) (k : ℕ) → allowed as_event k ≡ true → SameDone x b (event_of at k b) (event_call k b)
 unfolding allowed event_of event_call event_done called rounds_in marks_then accepted
@@ -92,10 +95,11 @@ unfolding calls_of stop_of after rounds
 by_none x n = record { net = refl; counted = omega arith; number = refl; place = refl }
 
 -- a record that is no event
-by_malformed : (go : Net → Running) (x : Net) (b : List ℕ) (n at e : ℕ) → e ≢ 0 →
-    AnswersBy x n (malformed e at) (after_event go at n (event_done x b (Refusal e at)))
+by_malformed : (go : Net → Running) (x : Net) (b : List ℕ) (n at : ℕ) (f : Fault) → fault_number f ≢ 0 →
+    AnswersBy x n (malformed (fault_number f) at) (after_event go at n (event_done x b (Refusal f at)))
 unfolding calls_of stop_of after rounds event_done
-by_malformed go x b n at e h =
+by_malformed go x b n at f h =
+    let e = fault_number f in
     let k = outcome_number e x x in
     rw (event_stops go at n (outcome e x x) (λ z. h (sym k ∙ z)))
     (record { net = outcome_same e x; counted = omega arith; number = k; place = refl })
@@ -167,9 +171,9 @@ events_as (suc k) x n at (kind ∷ b) = go (allowed as_event kind) (ltb (length 
     go : (t u : Bool) → allowed as_event kind ≡ t →
         ((x : Net) (n at : ℕ) (bs : List ℕ) → AnswersBy x n (events_in k at bs) (read_events k x n at bs)) →
         AnswersBy x n (cond t (cond u (malformed 1 at) (event at (event_call kind (body_of kind b)) rest)) (malformed 2 at))
-        (step (cond t (cond u (refused_record 1 at) (whole_record at kind b)) (refused_record 2 at)))
-    go false u p again = by_malformed _ x (body_of kind b) n at 2 (λ z. omega arith)
-    go true true p again = by_malformed _ x (body_of kind b) n at 1 (λ z. omega arith)
+        (step (cond t (cond u (refused_record Cut at) (whole_record at kind b)) (refused_record Kind at)))
+    go false u p again = by_malformed _ x (body_of kind b) n at Kind (λ z. omega arith)
+    go true true p again = by_malformed _ x (body_of kind b) n at Cut (λ z. omega arith)
     go true false p again =
         by_call _ x (body_of kind b) n at (event_of at kind (body_of kind b)) (event_call kind (body_of kind b)) rest
         (same_done x at (body_of kind b) kind p) (λ z. again z _ _ _)

@@ -1,13 +1,11 @@
 -- Document 01, "Bench-fit and false", request One's rule of before and the owner's trials 1 to 3: rounds other than the one defined, and for each a
 -- row that differs.
 -- Assumes nothing.
-use Rattle.std.specs.Prelude.{◌≡◌, ◌≢◌, Bool, true, false, cond, ◌&&◌, ◌||◌, List, [], ◌∷◌, ℕ, zero, suc, ◌+◌, ◌*◌, ◌-◌, ◌%◌, eqb, ltb, replicate}
+use Rattle.std.specs.Prelude.{◌≡◌, ◌≢◌, Bool, true, false, cond, ◌&&◌, ◌||◌, List, [], ◌∷◌, ℕ, zero, suc, ◌+◌, ◌*◌, ◌-◌, ◌%◌, eqb, ltb, replicate, Some, None}
 use Rattle.ancestors.specs.Ancestors.{has, put, own}
 use Rattle.network.specs.Faults.{max_label}
 use Rattle.network.specs.Network.{Row, none, root, via, Report, empty, told, Net, with_rows, with_reports, with_row, outcome, fresh_of}
-use Rattle.network.specs.Round.{Marks, hear, offer, ones_in, winner, row_by, renew, marked, some, round_number, every_arc, round as play_round}
-use Rattle.network.specs.declared.Offer.{Offer}
-use Rattle.network.specs.declared.Offer.TheVariants.{Nothing, Sum}
+use Rattle.network.specs.Round.{Offer, Marks, hear, offer, ones_in, winner, row_by, renew, marked, some, round_number, every_arc, round as play_round}
 use Rattle.network.specs.Change.{change_of, grade_of}
 use Rattle.settling.specs.Calls.{Call, change, grade, round, full_round, route, write_image_of, after}
 
@@ -49,8 +47,8 @@ unheard_empty m x = play_round m (with_reports x (λ s r. empty))
 
 -- adding costs in 16 bits
 abbrev pub offer16 : ℕ → ℕ → Report → Offer
-offer16 y c empty = Nothing
-offer16 y c (told d l) = cond (has l y || ltb max_label ((d + c) % 65536)) Nothing (Sum ((d + c) % 65536))
+offer16 y c empty = None
+offer16 y c (told d l) = cond (has l y || ltb max_label ((d + c) % 65536)) None (Some ((d + c) % 65536))
 
 abbrev pub choice16 : ℕ → (ℕ → ℕ) → (ℕ → Report) → ℕ → Row
 choice16 n cost held y = row_by y held (winner (λ s. offer16 y (cost s) (held s)) (λ s. ones_in (held s)) n)

@@ -1,11 +1,9 @@
 -- Document 01, "The four-node field": its run as bytes, and the list of cases that are proved together.
 -- Assumes nothing.
-use Rattle.std.specs.Prelude.{◌≡◌, List, [], ◌∷◌, ◌++◌, map, ℕ, get_or, replicate}
+use Rattle.std.specs.Prelude.{◌≡◌, List, [], ◌∷◌, ◌++◌, map, ℕ, get_or, replicate, Some, None}
 use Rattle.network.specs.Network.{Row, none, root, via, Report, empty, told, Net, fresh_net}
-use Rattle.network.specs.Round.{offer, choice}
+use Rattle.network.specs.Round.{Offer, offer, choice}
 use Rattle.network.specs.Change.{grade_cost_of, grade_of}
-use Rattle.network.specs.declared.Offer.{Offer}
-use Rattle.network.specs.declared.Offer.TheVariants.{Nothing, Sum}
 use Rattle.records.specs.Opening.{open_of}
 use Rattle.records.specs.Running.{run_of}
 
@@ -80,14 +78,14 @@ cases =
     record { given = labels (run_of (field_run 3)).net; said = label 0 ∷ unlabelled ∷ unlabelled ∷ label 4 ∷ [] } ∷
     record { given = labels (run_of (field_run 5)).net; said = label 0 ∷ label 6 ∷ label 5 ∷ label 4 ∷ [] } ∷
     -- a sum at the limit, and one above it
-    record { given = offered (offer 1 1 (told 2031584 1)) ∷ []; said = offered (Sum 2031585) ∷ [] } ∷
-    record { given = offered (offer 1 1 (told 2031585 1)) ∷ []; said = offered Nothing ∷ [] } ∷
+    record { given = offered (offer 1 1 (told 2031584 1)) ∷ []; said = offered (Some 2031585) ∷ [] } ∷
+    record { given = offered (offer 1 1 (told 2031585 1)) ∷ []; said = offered None ∷ [] } ∷
     -- equal offers from 1 and 2
     record { given = row (choice 4 (λ s. 7) equal_reports 3) ∷ []; said = row (via 12 1 10) ∷ [] } ∷
     -- and from 1 with more ones in its list
     record { given = row (choice 4 (λ s. 7) longer_reports 3) ∷ []; said = row (via 12 2 12) ∷ [] } ∷
     -- a report listing its receiver
-    record { given = offered (offer 1 1 (told 5 7)) ∷ []; said = offered Nothing ∷ [] } ∷
+    record { given = offered (offer 1 1 (told 5 7)) ∷ []; said = offered None ∷ [] } ∷
     -- grades 15 and 16
     record { given = cost (grade_cost_of 15) ∷ number (grade_of (fresh_net 4 0) 0 1 15).number ∷ []; said = cost 24 ∷ number 0 ∷ [] } ∷
     record { given = number (grade_of (fresh_net 4 0) 0 1 16).number ∷ []; said = number 3 ∷ [] } ∷
