@@ -1,13 +1,16 @@
-// Document 01's tests of numbers: a pair of nodes, and a row or a report of an image, by the number of its form; what is in range for a receiver, as a
+// Document 01's tests of numbers: a pair of nodes, and a row or a report of an image, by the fault of its form; what is in range for a receiver, as a
 // word; and the cost of a grade.
 //
 // The crate `network` has the definitions. No public function has a precondition.
 #![tactic(auto)]
 
 ghost use Rattle.std.specs.Prelude.{◌≡◌, cond, ◌^◌, ltb, leb};
+ghost use Rattle.network.specs.Answered.{answered};
 ghost use Rattle.network.specs.Faults.{max_label, pair_fault_of, list_fault_of, row_form_number, report_form_number};
 ghost use Rattle.network.specs.Arcs.{senders};
 ghost use Rattle.network.specs.Change.{grade_cost_of};
+
+use network::{Fault, HeldReport, Pair, Route};
 
 // The cost of each grade; grade 0 removes the arc.
 const GRADES: [u32; 16] = [
@@ -15,20 +18,20 @@ const GRADES: [u32; 16] = [
 ];
 
 // Whether the sender or the receiver is not below n, or they are equal.
-pub fn pair_fault(n: u32, sender: u32, receiver: u32) -> bool
-    ensures { result ≡ pair_fault_of n sender receiver }
+pub fn pair_fault(n: u32, pair: Pair) -> bool
+    ensures { result ≡ pair_fault_of n pair.sender pair.receiver }
 {
-    if n <= sender {
+    if n <= pair.sender {
         return true;
     }
-    if n <= receiver {
+    if n <= pair.receiver {
         return true;
     }
-    sender == receiver
+    pair.sender == pair.receiver
 }
 
 // A list of 32 nodes.
-const ALL: u32 = 4294967295;
+const ALL: u32 = u32::MAX;
 
 // What is in range for a receiver among n nodes: a bit for every node but itself, and none where it is not below n.
 pub fn senders(n: u32, receiver: u32) -> u32
@@ -47,17 +50,17 @@ pub fn bit_beyond(n: u32, list: u32) -> bool
     ancestors::below(list, n) != list
 }
 
-// The number of a list among n nodes: 12 for a bit not below n or without the node's, else 0.
-fn list_fault(n: u32, node: u32, list: u32) -> u8
-    ensures { result ≡ cond (list_fault_of n node list) 12 0 }
+// A list among n nodes: it has no bit not below n, and the node's.
+fn check_list(n: u32, node: u32, list: u32) -> Result<(), Fault>
+    ensures { answered result ≡ cond (list_fault_of n node list) 12 0 }
 {
     if bit_beyond(n, list) {
-        return 12;
+        return Err(Fault::List);
     }
     if ancestors::listed(list, node) {
-        return 0;
+        return Ok(());
     }
-    12
+    Err(Fault::List)
 }
 
 // Whether a label is above the largest.
@@ -67,42 +70,42 @@ fn label_above(label: u32) -> bool
     network::MAX_LABEL < label
 }
 
-// The number of a relay's row among n nodes: 5 for a row for the origin, then 10 for its label, 11 for its predecessor, 12 for its list, else 0.
-pub fn row_fault(n: u32, origin: u32, node: u32, label: u32, predecessor: u32, list: u32) -> u8
-    ensures { result ≡ row_form_number n origin node label predecessor list }
+// A relay's row among n nodes: not for the origin, and then its label, its predecessor and its list within their limits.
+pub fn check_row(n: u32, origin: u32, node: u32, route: Route) -> Result<(), Fault>
+    ensures { answered result ≡ row_form_number n origin node route.label route.predecessor route.list }
 {
     if node == origin {
-        return 5;
+        return Err(Fault::Form);
     }
-    if label == 0 {
-        return 10;
+    if route.label == 0 {
+        return Err(Fault::Label);
     }
-    if label_above(label) {
-        return 10;
+    if label_above(route.label) {
+        return Err(Fault::Label);
     }
-    if n <= predecessor {
-        return 11;
+    if n <= route.predecessor {
+        return Err(Fault::Predecessor);
     }
-    if predecessor == node {
-        return 11;
+    if route.predecessor == node {
+        return Err(Fault::Predecessor);
     }
-    list_fault(n, node, list)
+    check_list(n, node, route.list)
 }
 
-// The number of a report over an arc of this cost among n nodes: 5 for a pair without an arc, then 10 for its label, 12 for its list, else 0.
-pub fn report_fault(n: u32, cost: u32, sender: u32, label: u32, list: u32) -> u8
-    ensures { result ≡ report_form_number n cost sender label list }
+// A report over an arc of this cost among n nodes: not without an arc, and then its label and its list within their limits.
+pub fn check_report(n: u32, cost: u32, sender: u32, report: HeldReport) -> Result<(), Fault>
+    ensures { answered result ≡ report_form_number n cost sender report.label report.list }
 {
     if cost == 0 {
-        return 5;
+        return Err(Fault::Form);
     }
-    if label_above(label) {
-        return 10;
+    if label_above(report.label) {
+        return Err(Fault::Label);
     }
-    list_fault(n, sender, list)
+    check_list(n, sender, report.list)
 }
 
-// The cost that a grade stands for; 0 above grade 15.
+// The cost that a grade stands for; 0 above grade 15, as a call that can't fail.
 pub fn grade_cost(grade: u32) -> u32
     ensures { result ≡ grade_cost_of grade }
 {

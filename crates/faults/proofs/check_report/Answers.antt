@@ -1,8 +1,8 @@
--- `faults::report_fault` meets its contract, test by test.
+-- `faults::check_report` meets its contract, test by test.
 -- Assumes nothing.
 use borrow.Author.Tests.{eq-eqb, ne_eqb}
 use Rattle.network.specs.Faults.{report_form_number, arc_fault, report_label_fault}
-use Rattle.faults.proofs.report_fault.Goals as goal
+use Rattle.faults.proofs.check_report.Goals as goal
 
 pub returns-then-cost-eq0 : goal.returns-then-cost-eq0
 unfolding report_form_number arc_fault report_label_fault
@@ -15,4 +15,4 @@ returns-then-label_above c = rw (ne_eqb _ _ c.if-cost-eq0.false, ← c.label_abo
 pub returns : goal.returns
 unfolding report_form_number arc_fault report_label_fault
 returns c =
-    rw (ne_eqb _ _ c.if-cost-eq0.false, ← c.label_above.ensures, c.if-label_above.false) c.list_fault.ensures
+    rw (ne_eqb _ _ c.if-cost-eq0.false, ← c.label_above.ensures, c.if-label_above.false) c.check_list.ensures

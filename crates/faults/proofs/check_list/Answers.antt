@@ -1,7 +1,7 @@
--- `faults::list_fault` meets its contract, test by test.
+-- `faults::check_list` meets its contract, test by test.
 -- Assumes nothing.
 use Rattle.network.specs.Faults.{list_fault_of}
-use Rattle.faults.proofs.list_fault.Goals as goal
+use Rattle.faults.proofs.check_list.Goals as goal
 
 pub returns-then-bit_beyond : goal.returns-then-bit_beyond
 unfolding list_fault_of
