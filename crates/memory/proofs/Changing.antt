@@ -18,7 +18,7 @@ use Rattle.network.specs.Network.{empty, Net, with_cost, with_held, outcome}
 use Rattle.network.specs.Change.{changed}
 use Rattle.network.specs.Words.{report_of, cost_of}
 use Rattle.memory.specs.Layout.{word_count, look, view, arc_bits, arc_costs, held_labels, held_lists}
-use Rattle.memory.specs.Inner.{Pair}
+use Rattle.memory.specs.Inner.{PairOf}
 use Rattle.memory.specs.Answers.{Leaves}
 use Rattle.memory.proofs.Store.{Has, present_in, arc_is, read_held, cost_none, store_arc, clear_arc}
 use Rattle.memory.proofs.Laws.{leaves_refused, leaves_accepted}
@@ -33,7 +33,7 @@ unfolding report_of
 emptied true d l = refl
 emptied false d l = refl
 
-module _ (xs : List ℕ) (size : length xs ≡ word_count) (s r : ℕ) (pair : Pair xs s r) where
+module _ (xs : List ℕ) (size : length xs ≡ word_count) (s r : ℕ) (pair : PairOf xs s r) where
   abbrev at : ℕ
   at = r * 32 + s
 

@@ -16,11 +16,14 @@ use Rattle.network.proofs.FaultLaws.{node_free}
 use Rattle.network.proofs.Effects.{outcome_number, refused_net, accepted_net}
 use Rattle.memory.specs.Layout.{word, row_of, node_row, net_of, frame_in, look, view, list_word_of, row_labels, row_predecessors, row_lists}
 use Rattle.memory.specs.Answers.{Leaves, Starts, RowAnswer, row_hops, read_row, row_means, arcs_means, CostAnswer, read_cost, cost_means, held_means}
+use Rattle.std.specs.Prelude.{Option, Some, None, Result, Ok, Err}
+use Rattle.network.specs.Answered.{fault_number}
+use Rattle.network.specs.declared.Fault.{Fault}
+use Rattle.network.specs.declared.Route.{Route}
+use Rattle.network.specs.declared.HeldReport.{HeldReport}
+use Rattle.network.proofs.Answered.{fault_some}
 use Rattle.memory.specs.declared.RowRead.{RowRead}
 use Rattle.memory.specs.declared.RowRead.TheVariants as R
-use Rattle.memory.specs.declared.CostRead.{CostRead}
-use Rattle.memory.specs.declared.ArcsRead.{ArcsRead}
-use Rattle.memory.specs.declared.HeldRead.TheVariants as H
 
 -- a network has at most 32 nodes
 pub few : (xs : List ℕ) → (view xs).nodes ≤ max_nodes
@@ -56,58 +59,66 @@ accepted : {A : Type 0} (number : A → ℕ) (fault : Bool) (bad good m : A) →
 accepted number true bad good m e b z = absurd (omega (arith, ap number e))
 accepted number false bad good m e b z = (refl, e)
 
-refused : {A : Type 0} (number : A → ℕ) (fault : Bool) (bad good m : A) → m ≡ cond fault bad good → number good ≡ 0 → number m ≡ 3 → fault ≡ true
+refused : {A : Type 0} (number : A → ℕ) (fault : Bool) (bad good m : A) → m ≡ cond fault bad good → number good ≡ 0 → number m ≢ 0 → fault ≡ true
 refused number true bad good m e g z = refl
-refused number false bad good m e g z = absurd (omega (arith, ap number e))
+refused number false bad good m e g n = absurd (n (ap number e ∙ g))
 
 -- ---- what the cases of an answer mean
 
-pub refused_row_means : row_means R.Refused ≡ record { number = 3; row = none; hops = 0 }
+pub refused_row_means : (f : Fault) → row_means (Err f) ≡ record { number = fault_number f; row = none; hops = 0 }
 unfolding row_means
-refused_row_means = refl
+refused_row_means f = refl
 
-pub no_route_means : row_means R.NoRoute ≡ record { number = 0; row = none; hops = 0 }
+pub no_route_means : row_means (Ok R.NoRoute) ≡ record { number = 0; row = none; hops = 0 }
 unfolding row_means
 no_route_means = refl
 
-pub origin_means : (l h : ℕ) → row_means (R.Origin l h) ≡ record { number = 0; row = root l; hops = h }
+pub origin_means : (l h : ℕ) → row_means (Ok (R.Origin l h)) ≡ record { number = 0; row = root l; hops = h }
 unfolding row_means
 origin_means l h = refl
 
-pub route_means : (d p l h : ℕ) → row_means (R.Route d p l h) ≡ record { number = 0; row = via d p l; hops = h }
+pub relay_means : (w : Route) (h : ℕ) → row_means (Ok (R.Relay w h)) ≡ record { number = 0; row = via w.label w.predecessor w.list; hops = h }
 unfolding row_means
-route_means d p l h = refl
+relay_means w h = refl
 
-pub cost_means_lem : (r : CostRead) → cost_means r ≡ record { number = r.number; cost = r.cost }
+pub refused_cost_means : (f : Fault) → cost_means (Err f) ≡ record { number = fault_number f; cost = 0 }
 unfolding cost_means
-cost_means_lem r = refl
+refused_cost_means f = refl
 
-pub arcs_means_lem : (r : ArcsRead) → arcs_means r ≡ record { number = r.number; arcs = r.arcs }
+pub some_cost_means : (c : ℕ) → cost_means (Ok c) ≡ record { number = 0; cost = c }
+unfolding cost_means
+some_cost_means c = refl
+
+pub refused_arcs_means : (f : Fault) → arcs_means (Err f) ≡ record { number = fault_number f; arcs = 0 }
 unfolding arcs_means
-arcs_means_lem r = refl
+refused_arcs_means f = refl
 
-pub refused_report_means : held_means H.Refused ≡ record { number = 3; held = empty }
+pub some_arcs_means : (w : ℕ) → arcs_means (Ok w) ≡ record { number = 0; arcs = w }
+unfolding arcs_means
+some_arcs_means w = refl
+
+pub refused_report_means : (f : Fault) → held_means (Err f) ≡ record { number = fault_number f; held = empty }
 unfolding held_means
-refused_report_means = refl
+refused_report_means f = refl
 
-pub empty_means : held_means H.Empty ≡ record { number = 0; held = empty }
+pub empty_means : held_means (Ok None) ≡ record { number = 0; held = empty }
 unfolding held_means
 empty_means = refl
 
-pub report_means : (d l : ℕ) → held_means (H.Report d l) ≡ record { number = 0; held = told d l }
+pub report_means : (h : HeldReport) → held_means (Ok (Some h)) ≡ record { number = 0; held = told h.label h.list }
 unfolding held_means
-report_means d l = refl
+report_means h = refl
 
 -- ---- what an answer says of y's row
 
-module _ (x : Net) (y : ℕ) (r : RowRead) (said : row_means r ≡ read_row x y) where
+module _ (x : Net) (y : ℕ) (r : Result RowRead Fault) (said : row_means r ≡ read_row x y) where
   -- y is no node
-  pub said_refused : r ≡ R.Refused → node_fault x.nodes y ≡ true
+  pub said_refused : {f : Fault} → r ≡ Err f → node_fault x.nodes y ≡ true
   unfolding read_row row_means
-  said_refused e = refused (λ (a : RowAnswer). a.number) (node_fault x.nodes y) _ _ _ (sym (ap row_means e) ∙ said) refl refl
+  said_refused {f} e = refused (λ (a : RowAnswer). a.number) (node_fault x.nodes y) _ _ _ (sym (ap row_means e) ∙ said) refl (fault_some f)
 
   -- a node is not refused
-  pub not_refused : y < x.nodes → r ≡ R.Refused → ⊥
+  pub not_refused : {f : Fault} → y < x.nodes → r ≡ Err f → ⊥
   not_refused below e = never (node_fault x.nodes y) (said_refused e) (node_free x.nodes y below)
 
   -- y is a node and has the row w
@@ -119,25 +130,32 @@ module _ (x : Net) (y : ℕ) (r : RowRead) (said : row_means r ≡ read_row x y)
       (a.0, row, ap (λ (b : RowAnswer). b.hops) a.1 ∙ ap row_hops row)
 
   -- it has no route, is the origin, or is a relay with a route; hops are those of the list
-  pub said_none : r ≡ R.NoRoute → (node_fault x.nodes y ≡ false) × (x.row y ≡ none)
+  pub said_none : r ≡ Ok R.NoRoute → (node_fault x.nodes y ≡ false) × (x.row y ≡ none)
   unfolding row_means
   said_none e = let a = row_said none 0 (ap row_means e) in (a.0, a.1)
 
-  pub said_origin : {l k : ℕ} → r ≡ R.Origin l k → (node_fault x.nodes y ≡ false) × (x.row y ≡ root l) × (k ≡ hops l)
+  pub said_origin : {l k : ℕ} → r ≡ Ok (R.Origin l k) → (node_fault x.nodes y ≡ false) × (x.row y ≡ root l) × (k ≡ hops l)
   unfolding row_means row_hops
   said_origin {l} {k} e = row_said (root l) k (ap row_means e)
 
-  pub said_route : {d p l k : ℕ} → r ≡ R.Route d p l k → (node_fault x.nodes y ≡ false) × (x.row y ≡ via d p l) × (k ≡ hops l)
+  pub said_relay : {w : Route} {k : ℕ} → r ≡ Ok (R.Relay w k) → (node_fault x.nodes y ≡ false) × (x.row y ≡ via w.label w.predecessor w.list) × (k ≡ hops w.list)
   unfolding row_means row_hops
-  said_route {d} {p} {l} {k} e = row_said (via d p l) k (ap row_means e)
+  said_relay {w} {k} e = row_said (via w.label w.predecessor w.list) k (ap row_means e)
 
 -- ---- what an answer says of the cost from s to t
 
-module _ (x : Net) (s t : ℕ) (r : CostRead) (said : cost_means r ≡ read_cost x s t) where
-  -- a pair of nodes has this cost
-  pub said_cost : pair_fault_of x.nodes s t ≡ false → r.cost ≡ x.cost s t
+module _ (x : Net) (s t : ℕ) (r : Result ℕ Fault) (said : cost_means r ≡ read_cost x s t) where
+  -- a bad pair is refused
+  pub said_no_pair : {f : Fault} → r ≡ Err f → pair_fault_of x.nodes s t ≡ true
   unfolding read_cost cost_means
-  said_cost f = ap (λ (a : CostAnswer). a.cost) (rw f at said)
+  said_no_pair {f} e = refused (λ (a : CostAnswer). a.number) (pair_fault_of x.nodes s t) _ _ _ (sym (ap cost_means e) ∙ said) refl (fault_some f)
+
+  -- a pair of nodes has this cost
+  pub said_cost : {c : ℕ} → r ≡ Ok c → (pair_fault_of x.nodes s t ≡ false) × (c ≡ x.cost s t)
+  unfolding read_cost cost_means
+  said_cost {c} e =
+      let a = accepted (λ (b : CostAnswer). b.number) (pair_fault_of x.nodes s t) _ _ _ (sym (ap cost_means e) ∙ said) refl refl in
+      (a.0, ap (λ (b : CostAnswer). b.cost) a.1)
 
 -- ---- what a call leaves, from its number
 

@@ -17,7 +17,7 @@ use Rattle.network.specs.Faults.{max_nodes, pair_fault_of}
 use Rattle.network.specs.Words.{report_of, cost_of}
 use Rattle.network.proofs.FaultLaws.{pair_says, sender_bad, receiver_bad}
 use Rattle.network.proofs.Effects.{same_net}
-use Rattle.memory.specs.Inner.{Pair}
+use Rattle.memory.specs.Inner.{PairOf}
 use Rattle.memory.specs.Layout.{word_count, frame_in, word, present, at_arc, row_of, node_row, net_of, look, view, arc_bits, arc_costs, held_labels, held_lists, row_labels, row_lists, row_predecessors}
 use Rattle.memory.proofs.Laws.{few}
 
@@ -531,7 +531,7 @@ module _ (xs : List ℕ) (size : length xs ≡ word_count) where
             go (inr q) = ap (λ w. cond (eqb a o) (root (own o)) w) (elsewhere a (λ k. q (k ∙ e)))
 
 -- a pair without a fault
-pub pair_found : (xs : List ℕ) (n s r : ℕ) → n ≡ (view xs).nodes → pair_fault_of n s r ≡ false → Pair xs s r
+pub pair_found : (xs : List ℕ) (n s r : ℕ) → n ≡ (view xs).nodes → pair_fault_of n s r ≡ false → PairOf xs s r
 pair_found xs n s r is e =
     let k = pair_says n s r e in
     record { free = ap (λ m. pair_fault_of m s r) (sym is) ∙ e; sender = omega (arith, few xs); receiver = omega (arith, few xs) }

@@ -10,7 +10,7 @@ pub record Node (xs : List ℕ) (y : ℕ) : Type 0 where
   pub small : y < 32
 
 -- s and r are a pair of different nodes of the network that the words give
-pub record Pair (xs : List ℕ) (s r : ℕ) : Type 0 where
+pub record PairOf (xs : List ℕ) (s r : ℕ) : Type 0 where
   pub free : pair_fault_of (view xs).nodes s r ≡ false
   pub sender : s < 32
   pub receiver : r < 32

@@ -6,17 +6,20 @@
 #![tactic(auto)]
 
 ghost use Rattle.std.specs.Prelude.{◌≡◌, cond, ◌<◌, ◌≤◌, length};
+ghost use Rattle.network.specs.Answered.{answered};
 ghost use Rattle.network.specs.Faults.{max_nodes, max_cost};
 ghost use Rattle.network.specs.Network.{fresh_net, fresh_of};
 ghost use Rattle.network.specs.Arcs.{arcs_to, arc_words_of};
 ghost use Rattle.network.specs.Placing.{place_row_number, place_row_of, place_report_number, place_report_of};
 ghost use Rattle.network.specs.Change.{changed, change_of, grade_of};
 ghost use Rattle.memory.specs.Layout.{word_count, held_lists, view, list_word_of, pair_word_of, cost_word_of, held_label_word_of, held_list_word_of};
-ghost use Rattle.memory.specs.Inner.{Pair, Blank};
+ghost use Rattle.memory.specs.Inner.{PairOf, Blank};
 ghost use Rattle.memory.specs.Answers.{Leaves, Starts, read_row, row_means, read_arcs, arcs_means, read_cost, cost_means, read_held_of, held_means};
 
+use network::{Fault, HeldReport, Pair, Route};
+
 // Words for something of each node, and of each pair.
-const BY_NODE: usize = network::MAX_NODES as usize;
+const BY_NODE: usize = network::NODES;
 
 const BY_PAIR: usize = BY_NODE * BY_NODE;
 
@@ -45,46 +48,13 @@ pub const WORDS: usize = HELD_LISTS + BY_PAIR;
 // The words of a network.
 pub type Network = [u32; WORDS];
 
-// A node's row as it is read.
-#[derive(Drop)]
+// A node's row as it is read, with its hops.
+#[derive(Clone, Copy)]
 pub enum RowRead {
-    // 3: the node is not below n.
-    Refused,
     NoRoute,
     // Label 0 and no predecessor.
-    Origin {
-        list: u32,
-        hops: u32,
-    },
-    Route {
-        label: u32,
-        predecessor: u32,
-        list: u32,
-        hops: u32,
-    },
-}
-
-// An arc's cost as it is read, 0 where there is no arc. The number is 3 where a node is not below n, or sender equals receiver.
-#[derive(Drop)]
-pub struct CostRead {
-    pub number: u8,
-    pub cost: u32,
-}
-
-// A receiver's arcs as they are read: bit s is 1 where the arc from s is present. The number is 3 where the receiver is not below n.
-#[derive(Drop)]
-pub struct ArcsRead {
-    pub number: u8,
-    pub arcs: u32,
-}
-
-// A held report as it is read.
-#[derive(Drop)]
-pub enum HeldRead {
-    // 3: a node is not below n, or sender equals receiver.
-    Refused,
-    Empty,
-    Report { label: u32, list: u32 },
+    Origin { list: u32, hops: u32 },
+    Relay { route: Route, hops: u32 },
 }
 
 // The number of nodes.
@@ -124,25 +94,25 @@ fn fresh_words(n: u32, origin: u32) -> Network
     net
 }
 
-// Makes the lent words a network of n nodes with no arcs and no routes but the origin's. Answers 0; or 3 for n or an origin out of range, and
-// then they are the fresh network of one node.
-pub fn make_fresh(net: &mut Network, n: u32, origin: u32) -> u8
-    ensures { Starts (fresh_of n origin) result net.new }
+// Makes the lent words a network of n nodes with no arcs and no routes but the origin's. Refused for n or an origin out of range, and then they are
+// the fresh network of one node.
+pub fn make_fresh(net: &mut Network, n: u32, origin: u32) -> Result<(), Fault>
+    ensures { Starts (fresh_of n origin) (answered result) net.new }
 {
     if n == 0 {
         *net = fresh_words(1, 0);
-        return 3;
+        return Err(Fault::Range);
     }
     if network::MAX_NODES < n {
         *net = fresh_words(1, 0);
-        return 3;
+        return Err(Fault::Range);
     }
     if n <= origin {
         *net = fresh_words(1, 0);
-        return 3;
+        return Err(Fault::Range);
     }
     *net = fresh_words(n, origin);
-    0
+    Ok(())
 }
 
 // ---- change and grade
@@ -154,98 +124,100 @@ fn kept_list(present: bool, list: u32) -> u32
     if present { list } else { 0 }
 }
 
-fn remove_arc(net: &mut [u32], sender: u32, receiver: u32)
+fn remove_arc(net: &mut [u32], pair: Pair)
     requires net_len { length net.old ≡ word_count }
-    requires pair { Pair net.old sender receiver }
-    ensures { view net.new ≡ changed (view net.old) sender receiver 0 }
+    requires pair { PairOf net.old pair.sender pair.receiver }
+    ensures { view net.new ≡ changed (view net.old) pair.sender pair.receiver 0 }
 {
-    let of = ARCS + receiver as usize;
-    net[of] = ancestors::left_out(net[of], sender);
+    let of = ARCS + pair.receiver as usize;
+    net[of] = ancestors::left_out(net[of], pair.sender);
 }
 
-fn set_arc(net: &mut [u32], sender: u32, receiver: u32, cost: u32)
+fn set_arc(net: &mut [u32], pair: Pair, cost: u32)
     requires net_len { length net.old ≡ word_count }
-    requires pair { Pair net.old sender receiver }
+    requires pair { PairOf net.old pair.sender pair.receiver }
     requires cost_nonzero { 0 < cost }
     requires cost_le_max_cost { cost ≤ max_cost }
-    ensures { view net.new ≡ changed (view net.old) sender receiver cost }
+    ensures { view net.new ≡ changed (view net.old) pair.sender pair.receiver cost }
 {
-    let of = ARCS + receiver as usize;
-    let at = receiver as usize * 32 + sender as usize;
+    let of = ARCS + pair.receiver as usize;
+    let at = pair.receiver as usize * BY_NODE + pair.sender as usize;
     let arcs = net[of];
-    net[HELD_LISTS + at] = kept_list(ancestors::listed(arcs, sender), net[HELD_LISTS + at]);
-    net[of] = ancestors::joined(arcs, sender);
+    net[HELD_LISTS + at] = kept_list(ancestors::listed(arcs, pair.sender), net[HELD_LISTS + at]);
+    net[of] = ancestors::joined(arcs, pair.sender);
     net[COSTS + at] = cost - 1;
 }
 
-fn put_cost(net: &mut [u32], sender: u32, receiver: u32, cost: u32)
+fn put_cost(net: &mut [u32], pair: Pair, cost: u32)
     requires net_len { length net.old ≡ word_count }
-    requires pair { Pair net.old sender receiver }
+    requires pair { PairOf net.old pair.sender pair.receiver }
     requires cost_le_max_cost { cost ≤ max_cost }
-    ensures { view net.new ≡ changed (view net.old) sender receiver cost }
+    ensures { view net.new ≡ changed (view net.old) pair.sender pair.receiver cost }
 {
     if cost == 0 {
-        remove_arc(net, sender, receiver);
+        remove_arc(net, pair);
     } else {
-        set_arc(net, sender, receiver, cost);
+        set_arc(net, pair, cost);
     }
 }
 
-// Sets the cost of a pair; cost 0 removes the arc. Answers 0, or 3 for a bad pair or a cost above 65,535.
-pub fn change(net: &mut Network, sender: u32, receiver: u32, cost: u32) -> u8
-    ensures { Leaves (change_of (view net.old) sender receiver cost) result net.old net.new }
+// Sets the cost of a pair; cost 0 removes the arc. Refused as Range for a bad pair or a cost above 65,535.
+pub fn change(net: &mut Network, pair: Pair, cost: u32) -> Result<(), Fault>
+    ensures { Leaves (change_of (view net.old) pair.sender pair.receiver cost) (answered result) net.old net.new }
 {
-    if faults::pair_fault(nodes(net), sender, receiver) {
-        return 3;
+    if faults::pair_fault(nodes(net), pair) {
+        return Err(Fault::Range);
     }
     if network::MAX_COST < cost {
-        return 3;
+        return Err(Fault::Range);
     }
-    put_cost(net, sender, receiver, cost);
-    0
+    put_cost(net, pair, cost);
+    Ok(())
 }
 
-// Sets the cost of a pair to that of a grade; grade 0 removes the arc. Answers 0, or 3 for a bad pair or a grade above 15.
-pub fn grade(net: &mut Network, sender: u32, receiver: u32, grade: u32) -> u8
-    ensures { Leaves (grade_of (view net.old) sender receiver grade) result net.old net.new }
+// Sets the cost of a pair to that of a grade; grade 0 removes the arc. Refused as Range for a bad pair or a grade above 15.
+pub fn grade(net: &mut Network, pair: Pair, grade: u32) -> Result<(), Fault>
+    ensures { Leaves (grade_of (view net.old) pair.sender pair.receiver grade) (answered result) net.old net.new }
 {
-    if faults::pair_fault(nodes(net), sender, receiver) {
-        return 3;
+    if faults::pair_fault(nodes(net), pair) {
+        return Err(Fault::Range);
     }
     if network::MAX_GRADE < grade {
-        return 3;
+        return Err(Fault::Range);
     }
-    put_cost(net, sender, receiver, faults::grade_cost(grade));
-    0
+    put_cost(net, pair, faults::grade_cost(grade));
+    Ok(())
 }
 
 // ---- reading
 
-// A node's row, with its hops.
-pub fn row(net: &Network, node: u32) -> RowRead
+// A node's row. Refused as Range for a node not below n.
+pub fn row(net: &Network, node: u32) -> Result<RowRead, Fault>
     ensures { row_means result ≡ read_row (view net.now) node }
 {
     if nodes(net) <= node {
-        return RowRead::Refused;
+        return Err(Fault::Range);
     }
     if node == net[ORIGIN] {
         let own = ancestors::joined(0, node);
-        return RowRead::Origin {
+        return Ok(RowRead::Origin {
             list: own,
             hops: ancestors::count_hops(own),
-        };
+        });
     }
     let y = node as usize;
     let list = net[ROW_LISTS + y];
     if list == 0 {
-        return RowRead::NoRoute;
+        return Ok(RowRead::NoRoute);
     }
-    RowRead::Route {
-        label: net[ROW_LABELS + y],
-        predecessor: net[ROW_PREDECESSORS + y],
-        list: list,
+    Ok(RowRead::Relay {
+        route: Route {
+            label: net[ROW_LABELS + y],
+            predecessor: net[ROW_PREDECESSORS + y],
+            list,
+        },
         hops: ancestors::count_hops(list),
-    }
+    })
 }
 
 // The arcs of any of 32 nodes, as a word; 0 where it is not below n.
@@ -257,18 +229,15 @@ fn arc_word(net: &Network, n: u32, receiver: u32) -> u32
     net[ARCS + receiver as usize] & faults::senders(n, receiver)
 }
 
-// A receiver's arcs.
-pub fn arcs(net: &Network, receiver: u32) -> ArcsRead
+// A receiver's arcs: bit s is 1 where the arc from s is present. Refused as Range for a receiver not below n.
+pub fn arcs(net: &Network, receiver: u32) -> Result<u32, Fault>
     ensures { arcs_means result ≡ read_arcs (view net.now) receiver }
 {
     let n = nodes(net);
     if n <= receiver {
-        return ArcsRead { number: 3, arcs: 0 };
+        return Err(Fault::Range);
     }
-    ArcsRead {
-        number: 0,
-        arcs: arc_word(net, n, receiver),
-    }
+    Ok(arc_word(net, n, receiver))
 }
 
 // Puts the arcs of each of 32 nodes into lent words, in the order of marks; 0 from n on.
@@ -296,128 +265,115 @@ pub fn list_word(net: &Network, node: u32) -> u32
 }
 
 // The word of a pair among those from a place on; 0 for other numbers.
-fn pair_word(net: &Network, from: usize, sender: u32, receiver: u32) -> u32
+fn pair_word(net: &Network, from: usize, pair: Pair) -> u32
     requires { from ≤ held_lists }
-    ensures { result ≡ pair_word_of net.now from sender receiver }
+    ensures { result ≡ pair_word_of net.now from pair.sender pair.receiver }
 {
-    if network::MAX_NODES <= sender {
+    if network::MAX_NODES <= pair.sender {
         return 0;
     }
-    if network::MAX_NODES <= receiver {
+    if network::MAX_NODES <= pair.receiver {
         return 0;
     }
-    net[from + (receiver as usize * 32 + sender as usize)]
+    net[from + (pair.receiver as usize * BY_NODE + pair.sender as usize)]
 }
 
 // The cost of the pair's arc, where there is one.
-pub fn cost_word(net: &Network, sender: u32, receiver: u32) -> u32
-    ensures { result ≡ cost_word_of net.now sender receiver }
+pub fn cost_word(net: &Network, pair: Pair) -> u32
+    ensures { result ≡ cost_word_of net.now pair.sender pair.receiver }
 {
-    pair_word(net, COSTS, sender, receiver) % 65536 + 1
+    pair_word(net, COSTS, pair) % 65536 + 1
 }
 
 // The label of the report that it holds, and its list, 0 where that report is empty.
-pub fn held_label_word(net: &Network, sender: u32, receiver: u32) -> u32
-    ensures { result ≡ held_label_word_of net.now sender receiver }
+pub fn held_label_word(net: &Network, pair: Pair) -> u32
+    ensures { result ≡ held_label_word_of net.now pair.sender pair.receiver }
 {
-    pair_word(net, HELD_LABELS, sender, receiver)
+    pair_word(net, HELD_LABELS, pair)
 }
 
-pub fn held_list_word(net: &Network, sender: u32, receiver: u32) -> u32
-    ensures { result ≡ held_list_word_of net.now sender receiver }
+pub fn held_list_word(net: &Network, pair: Pair) -> u32
+    ensures { result ≡ held_list_word_of net.now pair.sender pair.receiver }
 {
-    pair_word(net, HELD_LISTS, sender, receiver)
+    pair_word(net, HELD_LISTS, pair)
 }
 
-// The cost of the arc from sender to receiver.
-pub fn arc_cost(net: &Network, sender: u32, receiver: u32) -> CostRead
-    ensures { cost_means result ≡ read_cost (view net.now) sender receiver }
+// The cost of the arc from sender to receiver, 0 where there is no arc. Refused as Range for a bad pair.
+pub fn arc_cost(net: &Network, pair: Pair) -> Result<u32, Fault>
+    ensures { cost_means result ≡ read_cost (view net.now) pair.sender pair.receiver }
 {
-    if faults::pair_fault(nodes(net), sender, receiver) {
-        return CostRead { number: 3, cost: 0 };
+    if faults::pair_fault(nodes(net), pair) {
+        return Err(Fault::Range);
     }
-    if ancestors::listed(net[ARCS + receiver as usize], sender) {
-        return CostRead {
-            number: 0,
-            cost: cost_word(net, sender, receiver),
-        };
+    if ancestors::listed(net[ARCS + pair.receiver as usize], pair.sender) {
+        return Ok(cost_word(net, pair));
     }
-    CostRead { number: 0, cost: 0 }
+    Ok(0)
 }
 
-// The report that the arc from sender to receiver holds.
-pub fn held(net: &Network, sender: u32, receiver: u32) -> HeldRead
-    ensures { held_means result ≡ read_held_of (view net.now) sender receiver }
+// The report that the arc from sender to receiver holds, if it isn't empty. Refused as Range for a bad pair.
+pub fn held(net: &Network, pair: Pair) -> Result<Option<HeldReport>, Fault>
+    ensures { held_means result ≡ read_held_of (view net.now) pair.sender pair.receiver }
 {
-    if faults::pair_fault(nodes(net), sender, receiver) {
-        return HeldRead::Refused;
+    if faults::pair_fault(nodes(net), pair) {
+        return Err(Fault::Range);
     }
-    if ancestors::listed(net[ARCS + receiver as usize], sender) {
-        let list = held_list_word(net, sender, receiver);
+    if ancestors::listed(net[ARCS + pair.receiver as usize], pair.sender) {
+        let list = held_list_word(net, pair);
         if list == 0 {
-            return HeldRead::Empty;
+            return Ok(None);
         }
-        return HeldRead::Report {
-            label: held_label_word(net, sender, receiver),
-            list: list,
-        };
+        return Ok(Some(HeldReport {
+            label: held_label_word(net, pair),
+            list,
+        }));
     }
-    HeldRead::Empty
+    Ok(None)
 }
 
 // ---- placing
 
-// What `place_row` would answer.
-fn row_number(net: &Network, node: u32, label: u32, predecessor: u32, list: u32) -> u8
-    ensures { result ≡ place_row_number (view net.now) node label predecessor list }
+// Whether `place_row` would be accepted.
+fn check_row(net: &Network, node: u32, route: Route) -> Result<(), Fault>
+    ensures { answered result ≡ place_row_number (view net.now) node route.label route.predecessor route.list }
 {
     let n = nodes(net);
     if n <= node {
-        return 3;
+        return Err(Fault::Range);
     }
-    faults::row_fault(n, net[ORIGIN], node, label, predecessor, list)
+    faults::check_row(n, net[ORIGIN], node, route)
 }
 
-// Sets a relay's row. Answers 0; 3 for a node not below n; then, of its form, 5 for a row for the origin, 10 for the label, 11 for the predecessor,
-// 12 for the list.
-pub fn place_row(net: &mut Network, node: u32, label: u32, predecessor: u32, list: u32) -> u8
-    ensures { Leaves (place_row_of (view net.old) node label predecessor list) result net.old net.new }
+// Sets a relay's row. Refused as Range for a node not below n; then, of its form, as Form for a row for the origin, and for label, predecessor or
+// list.
+pub fn place_row(net: &mut Network, node: u32, route: Route) -> Result<(), Fault>
+    ensures { Leaves (place_row_of (view net.old) node route.label route.predecessor route.list) (answered result) net.old net.new }
 {
-    let k = row_number(net, node, label, predecessor, list);
-    if k != 0 {
-        return k;
-    }
+    check_row(net, node, route)?;
     let y = node as usize;
     let all: &mut [u32] = net;
-    all[ROW_LABELS + y] = label;
-    all[ROW_PREDECESSORS + y] = predecessor;
-    all[ROW_LISTS + y] = list;
-    0
+    all[ROW_LABELS + y] = route.label;
+    all[ROW_PREDECESSORS + y] = route.predecessor;
+    all[ROW_LISTS + y] = route.list;
+    Ok(())
 }
 
-// What `place_report` would answer.
-fn report_number(net: &Network, sender: u32, receiver: u32, label: u32, list: u32) -> u8
-    ensures { result ≡ place_report_number (view net.now) sender receiver label list }
+// Whether `place_report` would be accepted.
+fn check_report(net: &Network, pair: Pair, report: HeldReport) -> Result<(), Fault>
+    ensures { answered result ≡ place_report_number (view net.now) pair.sender pair.receiver report.label report.list }
 {
-    let n = nodes(net);
-    if faults::pair_fault(n, sender, receiver) {
-        return 3;
-    }
-    let read = arc_cost(net, sender, receiver);
-    faults::report_fault(n, read.cost, sender, label, list)
+    let cost = arc_cost(net, pair)?;
+    faults::check_report(nodes(net), cost, pair.sender, report)
 }
 
-// Sets the report that an arc holds. Answers 0; 3 for a bad pair; then, of its form, 5 for a pair without an arc, 10 for the label, 12 for the list.
-pub fn place_report(net: &mut Network, sender: u32, receiver: u32, label: u32, list: u32) -> u8
-    ensures { Leaves (place_report_of (view net.old) sender receiver label list) result net.old net.new }
+// Sets the report that an arc holds. Refused as Range for a bad pair; then, of its form, as Form for a pair without an arc, and for label or list.
+pub fn place_report(net: &mut Network, pair: Pair, report: HeldReport) -> Result<(), Fault>
+    ensures { Leaves (place_report_of (view net.old) pair.sender pair.receiver report.label report.list) (answered result) net.old net.new }
 {
-    let k = report_number(net, sender, receiver, label, list);
-    if k != 0 {
-        return k;
-    }
-    let at = receiver as usize * 32 + sender as usize;
+    check_report(net, pair, report)?;
+    let at = pair.receiver as usize * BY_NODE + pair.sender as usize;
     let all: &mut [u32] = net;
-    all[HELD_LABELS + at] = label;
-    all[HELD_LISTS + at] = list;
-    0
+    all[HELD_LABELS + at] = report.label;
+    all[HELD_LISTS + at] = report.list;
+    Ok(())
 }

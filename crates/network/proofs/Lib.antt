@@ -3,6 +3,7 @@
 
 -- faults, limits and numbers
 pub mod FaultLaws
+pub mod Answered
 pub mod Form
 pub mod Limits
 pub mod Accepting

@@ -1,0 +1,36 @@
+-- The number of a fault, and of an answer.
+-- Assumes nothing.
+use Prim.Native.Nat.{ℕ, ◌<◌, ◌≤◌}
+use mathlib.Core.Path.{◌≡◌, refl}
+use mathlib.Core.Logic.{◌≢◌}
+use native.Mathlib.Omega.{arith}
+use Rattle.std.specs.Prelude.{Result, Ok, Err}
+use Rattle.network.specs.Answered.{fault_number, answered}
+use Rattle.network.specs.declared.Fault.{Fault}
+use Rattle.network.specs.declared.Fault.TheVariants.{Cut, Kind, Range, Order, Form, Room, Mark, NoRoute, Broken, Label, Predecessor, List, Base, Message}
+
+-- it is 1 to 14
+pub fault_range : (f : Fault) → (0 < fault_number f) × (fault_number f ≤ 14)
+fault_range Cut = (omega arith, omega arith)
+fault_range Kind = (omega arith, omega arith)
+fault_range Range = (omega arith, omega arith)
+fault_range Order = (omega arith, omega arith)
+fault_range Form = (omega arith, omega arith)
+fault_range Room = (omega arith, omega arith)
+fault_range Mark = (omega arith, omega arith)
+fault_range NoRoute = (omega arith, omega arith)
+fault_range Broken = (omega arith, omega arith)
+fault_range Label = (omega arith, omega arith)
+fault_range Predecessor = (omega arith, omega arith)
+fault_range List = (omega arith, omega arith)
+fault_range Base = (omega arith, omega arith)
+fault_range Message = (omega arith, omega arith)
+
+-- a refusal has a number other than 0
+pub fault_some : (f : Fault) → fault_number f ≢ 0
+fault_some f z = omega (arith, (fault_range f).0)
+
+-- an answer of another number is a refusal
+pub refused_some : {A : Type 0} (r : Result A Fault) → answered r ≢ 0 → (f : Fault) × (r ≡ Err f)
+refused_some (Ok x) n = absurd (n refl)
+refused_some (Err f) n = (f, refl)
