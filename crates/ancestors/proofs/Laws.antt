@@ -184,9 +184,3 @@ ones_listed l i h =
     let low : l % 2 ^ i < 2 ^ i = mod-lt l (pow_pos i) in
     let parts : ones l ≡ ones (l / 2 ^ i) + ones (l % 2 ^ i) = ap ones (sym (split l i)) ∙ ones_cat i (l / 2 ^ i) (l % 2 ^ i) low in
     omega (arith, parts, ones_step (l / 2 ^ i), eqb-true (l / 2 ^ i % 2) 1 h)
-
--- a list that is not empty has a one
-pub ones_some : (k l : ℕ) → l < 2 ^ k → l ≢ 0 → 1 ≤ ones l
-ones_some k l h n =
-    let b = bit_beyond 0 k l (omega (arith, n)) (subst (λ (x : ℕ). l < 2 ^ x) (omega arith) h) in
-    omega (arith, ones_listed l b.0 b.3)

@@ -4,4 +4,4 @@ pub mod Counting
 pub mod Laws
 pub mod Sets
 pub mod Walk
-mod Words
+pub mod Words

@@ -1,8 +1,8 @@
 -- Ancestor lists of document 01, "The network": 32 bits, of which bit i has the value 2 ^ i and stands for node i.
 -- Assumes nothing.
-use Rattle.std.specs.Prelude.{Bool, true, false, cond, ℕ, zero, suc, ◌+◌, ◌-◌, ◌/◌, ◌%◌, ◌^◌, eqb}
+use Rattle.std.specs.Prelude.{◌≡◌, Bool, true, false, cond, Option, Some, None, ℕ, zero, suc, ◌+◌, ◌-◌, ◌/◌, ◌%◌, ◌^◌, ◌<◌, eqb}
 use Rattle.std.specs.Int.Bits.{bit_and, bit_or, bit_xor}
-use Rattle.std.specs.Int.Count.{ones}
+use Rattle.std.specs.Int.Count.{ones, count_trailing_zeros}
 
 -- node i is in the list l
 unfoldable pub has : ℕ → ℕ → Bool
@@ -42,3 +42,9 @@ one false = 0
 unfoldable pub count : (ℕ → Bool) → ℕ → ℕ
 count f zero = 0
 count f (suc k) = one (f k) + count f k
+
+-- a step through the nodes of a 32-bit list, lowest first: with m left it answers the lowest node, nothing where there is none, and leaves r
+pub record Steps (m : ℕ) (node : Option ℕ) (r : ℕ) : Type 0 where
+  pub fits : m < 2 ^ 32
+  pub answers : node ≡ cond (eqb m 0) None (Some (count_trailing_zeros 32 m))
+  pub leaves : r ≡ cut m (count_trailing_zeros 32 m)

@@ -1,12 +1,13 @@
 // Ancestor lists and other sets of nodes as 32-bit words: whether a node is listed, a list with a node more or less, its nodes below a number, whether
-// it has a node that another list has not, its lowest node, how many nodes it has, and its hops.
+// it has a node that another list has not, its lowest node, its nodes one by one, how many nodes it has, and its hops.
 //
 // No function has a precondition: a node above 31 is in no list and joins none.
 #![tactic(auto)]
 
 ghost use Rattle.std.specs.Prelude.{◌≡◌, cond, not, ◌%◌, ◌^◌, ltb};
 ghost use Rattle.std.specs.Int.Count.{count_trailing_zeros};
-ghost use Rattle.ancestors.specs.Ancestors.{has, put, cut, inside, hops, count};
+ghost use Rattle.std.specs.Iterator.{at_most};
+ghost use Rattle.ancestors.specs.Ancestors.{has, put, cut, inside, hops, count, Steps};
 
 // Whether the node is in the list.
 pub fn listed(list: u32, node: u32) -> bool
@@ -59,22 +60,49 @@ pub fn outside(list: u32, other: u32) -> bool
 pub fn lowest(list: u32) -> u32
     ensures { result ≡ count_trailing_zeros 32 list }
 {
-    u32::trailing_zeros(list)
+    list.trailing_zeros()
+}
+
+// The nodes of a list that are not yet passed, lowest first.
+#[derive(Drop)]
+pub struct Nodes {
+    left: u32,
+}
+
+// The nodes of the list one by one, lowest first.
+pub fn nodes_of(list: u32) -> Nodes
+    ensures { result.left ≡ list }
+{
+    Nodes { left: list }
+}
+
+impl Iterator for Nodes {
+    type Item = u32;
+
+    ghost next_gives = { λ s node t. Steps s.left node t.left };
+
+    ghost remaining = { λ s. at_most (count (has s.left) 32) };
+
+    fn next(&mut self) -> Option<u32> {
+        if self.left == 0 {
+            return None;
+        }
+        let node = lowest(self.left);
+        self.left &= self.left - 1;
+        Some(node)
+    }
 }
 
 // The number of nodes in the list.
 pub fn count_nodes(list: u32) -> u32
     ensures { result ≡ count (has list) 32 }
 {
-    u32::count_ones(list)
+    list.count_ones()
 }
 
 // The number of ones in the list less one; 0 for the empty list.
 pub fn count_hops(list: u32) -> u32
     ensures { result ≡ hops list }
 {
-    if list == 0 {
-        return 0;
-    }
-    count_nodes(list) - 1
+    count_nodes(list).saturating_sub(1)
 }

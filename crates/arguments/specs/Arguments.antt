@@ -1,10 +1,7 @@
 -- Change request Three, the program `rip`: its arguments -r, N and BASE; numbers are read digit by digit.
 -- Assumes nothing.
-use Rattle.std.specs.Prelude.{Bool, cond, ◌&&◌, ◌||◌, List, [], ◌∷◌, ℕ, zero, suc, ◌+◌, ◌*◌, ◌-◌, ◌^◌, min, eqb, ltb, length, get_or}
-use Rattle.arguments.specs.declared.CountRead.{CountRead}
-use Rattle.arguments.specs.declared.CountRead.TheVariants as C
-use Rattle.arguments.specs.declared.BaseRead.{BaseRead}
-use Rattle.arguments.specs.declared.BaseRead.TheVariants as B
+use Rattle.std.specs.Prelude.{Bool, cond, Option, None, Some, ◌&&◌, ◌||◌, List, [], ◌∷◌, ℕ, zero, suc, ◌+◌, ◌*◌, ◌-◌, ◌^◌, min, eqb, ltb, length, get_or}
+use Rattle.std.specs.List.{before_first, after_first}
 
 -- ---- -r
 
@@ -27,35 +24,37 @@ unfoldable pub no_number_of : List ℕ → Bool
 no_number_of t = eqb (length t) 0 || (ltb 1 (length t) && eqb (get_or t 0 0) 48)
 
 -- the digits t after those that stand for n
-unfoldable pub digits_after : ℕ → List ℕ → CountRead
-digits_after n [] = C.Count n
-digits_after n (b ∷ t) = cond (is_digit b) (digits_after (capped (n * 10 + (b - 48))) t) C.Unreadable
+unfoldable pub digits_after : ℕ → List ℕ → Option ℕ
+digits_after n [] = Some n
+digits_after n (b ∷ t) = cond (is_digit b) (digits_after (capped (n * 10 + (b - 48))) t) None
 
 -- a number in decimal without zeros in front
-unfoldable pub read_count_of : List ℕ → CountRead
-read_count_of t = cond (no_number_of t) C.Unreadable (digits_after 0 t)
+unfoldable pub read_count_of : List ℕ → Option ℕ
+read_count_of t = cond (no_number_of t) None (digits_after 0 t)
 
 -- ---- BASE
 
--- the bytes before the first dot, and those after it
+-- the byte "."
+abbrev pub is_dot : ℕ → Bool
+is_dot b = eqb b 46
+
+-- the bytes before the first dot, and those after it; all and none where there is no dot
 unfoldable pub before_dot : List ℕ → List ℕ
-before_dot [] = []
-before_dot (b ∷ t) = cond (eqb b 46) [] (b ∷ before_dot t)
+before_dot t = before_first is_dot t
 
 unfoldable pub after_dot : List ℕ → List ℕ
-after_dot [] = []
-after_dot (b ∷ t) = cond (eqb b 46) t (after_dot t)
+after_dot t = after_first is_dot t
 
 -- a number of at most 255, and what follows from it
-unfoldable pub byte_then : CountRead → (ℕ → BaseRead) → BaseRead
-byte_then C.Unreadable next = B.Unreadable
-byte_then (C.Count n) next = cond (ltb 255 n) B.Unreadable (next n)
+unfoldable pub byte_then : Option ℕ → (ℕ → Option ℕ) → Option ℕ
+byte_then None next = None
+byte_then (Some n) next = cond (ltb 255 n) None (next n)
 
 -- k numbers with a dot after each, and one more, after those that stand for v
-unfoldable pub bytes_after : ℕ → ℕ → List ℕ → BaseRead
-bytes_after zero v t = byte_then (read_count_of t) (λ n. B.Base (v * 256 + n))
+unfoldable pub bytes_after : ℕ → ℕ → List ℕ → Option ℕ
+bytes_after zero v t = byte_then (read_count_of t) (λ n. Some (v * 256 + n))
 bytes_after (suc k) v t = byte_then (read_count_of (before_dot t)) (λ n. bytes_after k (v * 256 + n) (after_dot t))
 
 -- four numbers of at most 255 with dots between
-unfoldable pub read_base_of : List ℕ → BaseRead
+unfoldable pub read_base_of : List ℕ → Option ℕ
 read_base_of t = bytes_after 3 0 t

@@ -1,10 +1,8 @@
 -- Change request Three, the program `rip`: which texts are read as -r, N and BASE.
 -- Assumes nothing.
-use Rattle.std.specs.Prelude.{◌≡◌, true, List, [], ◌∷◌, ◌++◌, ℕ, ◌/◌, ◌%◌, ◌^◌, ◌<◌}
+use Rattle.std.specs.Prelude.{◌≡◌, true, Some, List, [], ◌∷◌, ◌++◌, ℕ, ◌/◌, ◌%◌, ◌^◌, ◌<◌}
 use Rattle.text.specs.Text.{decimal}
 use Rattle.arguments.specs.Arguments.{is_flag_of, capped, read_count_of, read_base_of}
-use Rattle.arguments.specs.declared.CountRead.TheVariants as C
-use Rattle.arguments.specs.declared.BaseRead.TheVariants as B
 
 -- -r: exactly its two bytes
 unfoldable pub flag : List ℕ
@@ -16,8 +14,8 @@ pub record FlagExact : Type 0 where
 
 -- N: exactly the numbers in decimal
 pub record CountsExact : Type 0 where
-  pub all : (n : ℕ) → read_count_of (decimal n) ≡ C.Count (capped n)
-  pub only : (t : List ℕ) (v : ℕ) → read_count_of t ≡ C.Count v → (n : ℕ) × (t ≡ decimal n) × (v ≡ capped n)
+  pub all : (n : ℕ) → read_count_of (decimal n) ≡ Some (capped n)
+  pub only : (t : List ℕ) (v : ℕ) → read_count_of t ≡ Some v → (n : ℕ) × (t ≡ decimal n) × (v ≡ capped n)
 
 -- the four bytes of a base in decimal, with dots between
 unfoldable pub dotted : ℕ → List ℕ
@@ -25,5 +23,5 @@ dotted v = decimal (v / 16777216) ++ (46 ∷ (decimal (v / 65536 % 256) ++ (46 �
 
 -- BASE: exactly the bases of 32 bits
 pub record BasesExact : Type 0 where
-  pub all : (v : ℕ) → v < 2 ^ 32 → read_base_of (dotted v) ≡ B.Base v
-  pub only : (t : List ℕ) (v : ℕ) → read_base_of t ≡ B.Base v → (v < 2 ^ 32) × (t ≡ dotted v)
+  pub all : (v : ℕ) → v < 2 ^ 32 → read_base_of (dotted v) ≡ Some v
+  pub only : (t : List ℕ) (v : ℕ) → read_base_of t ≡ Some v → (v < 2 ^ 32) × (t ≡ dotted v)

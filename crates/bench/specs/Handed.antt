@@ -1,13 +1,21 @@
 -- Answers handed out in lent words.
 -- Assumes nothing.
-use Rattle.std.specs.Prelude.{◌≡◌, List, [], ◌∷◌, ℕ, get_or, length}
+use Rattle.std.specs.Prelude.{◌≡◌, List, [], ◌∷◌, ◌++◌, ℕ, ◌-◌, get_or, length, replicate}
 use Rattle.network.specs.Faults.{max_nodes}
 use Rattle.network.specs.Network.{Row, none, root, via, Report, empty, told}
 use Rattle.network.specs.Writing.{Writing}
 use Rattle.memory.specs.Layout.{view}
 use Rattle.memory.specs.Answers.{RowAnswer, ArcsAnswer, CostAnswer, HeldAnswer}
 use Rattle.records.specs.Running.{Running}
-use Rattle.response.specs.Reading.{Reading, places}
+use Rattle.records.specs.Opening.{Opening}
+use Rattle.response.specs.Reading.{Reading}
+
+-- the opening o, with number, place and bytes used in the words `answer` and its network in `words`
+pub record OpensTo (o : Opening) (answer words : List ℕ) : Type 0 where
+  pub number : get_or answer 0 0 ≡ o.number
+  pub place : get_or answer 1 0 ≡ o.place
+  pub used : get_or answer 2 0 ≡ o.used
+  pub net : view words ≡ o.net
 
 -- the run o, with number, place and rounds in the words `answer` and its network in `words`
 pub record RunsTo (o : Running) (answer words : List ℕ) : Type 0 where
@@ -48,6 +56,10 @@ report_words k (told d l) = k ∷ d ∷ l ∷ []
 
 unfoldable pub held_words_of : HeldAnswer → List ℕ
 held_words_of a = report_words a.number a.held
+
+-- the metrics in the places of 32 nodes; 0 in the others
+unfoldable pub places : List ℕ → List ℕ
+places metrics = metrics ++ replicate (max_nodes - length metrics) 0
 
 -- number, how many nodes, and the metrics in the places of 32 nodes
 unfoldable pub read_words : Reading → List ℕ

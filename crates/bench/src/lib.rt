@@ -2,8 +2,9 @@
 // contract; the others hand out the answer in lent words.
 #![tactic(auto)]
 
-ghost use Rattle.std.specs.Prelude.{◌≡◌, ◌∷◌, ◌+◌, length, get_or};
-ghost use Rattle.network.specs.Faults.{max_nodes};
+ghost use Rattle.std.specs.Prelude.{◌≡◌, ◌≤◌, ◌+◌, ◌∷◌, [], length, get_or};
+ghost use Rattle.std.specs.Result.{result_unwrap_or};
+ghost use Rattle.network.specs.Answered.{fault_number, answered};
 ghost use Rattle.network.specs.Network.{fresh_of};
 ghost use Rattle.network.specs.Placing.{place_row_of, place_report_of};
 ghost use Rattle.network.specs.Round.{round_of, full_round_of};
@@ -14,18 +15,31 @@ ghost use Rattle.network.specs.Route.{route_of};
 ghost use Rattle.records.specs.Image.{image_of};
 ghost use Rattle.records.specs.Opening.{open_of};
 ghost use Rattle.records.specs.Running.{run_of};
-ghost use Rattle.opening.specs.Answers.{Opens};
+ghost use Rattle.records.specs.Stopped.{stop_number, stop_place};
 ghost use Rattle.response.specs.Messages.{write_of};
 ghost use Rattle.response.specs.Reading.{read_of};
-ghost use Rattle.bench.specs.Handed.{RunsTo, WritesTo, row_words_of, arcs_words_of, cost_words_of, held_words_of, read_words};
+ghost use Rattle.network.specs.Faults.{max_nodes};
+ghost use Rattle.bench.specs.Handed.{places, OpensTo, RunsTo, WritesTo, row_words_of, arcs_words_of, cost_words_of, held_words_of, read_words};
 
-use memory::{ArcsRead, CostRead, HeldRead, Network, RowRead};
+use memory::{Network, RowRead};
+use network::{Fault, HeldReport, Pair, Route};
+use records::Stop;
+
+// The number of an answer.
+fn number(answer: Result<(), Fault>) -> u8
+    ensures { result ≡ answered answer }
+{
+    match answer {
+        Ok(()) => 0,
+        Err(fault) => u8::from(fault),
+    }
+}
 
 #[unsafe(no_mangle)]
 pub extern "C" fn bench_fresh(net: &mut Network, n: u32, origin: u32) -> u8
     ensures { Starts (fresh_of n origin) result net.new }
 {
-    memory::make_fresh(net, n, origin)
+    number(memory::make_fresh(net, n, origin))
 }
 
 #[unsafe(no_mangle)]
@@ -38,7 +52,12 @@ pub extern "C" fn bench_place_row(
 ) -> u8
     ensures { Leaves (place_row_of (view net.old) node label predecessor list) result net.old net.new }
 {
-    memory::place_row(net, node, label, predecessor, list)
+    let route = Route {
+        label,
+        predecessor,
+        list,
+    };
+    number(memory::place_row(net, node, route))
 }
 
 #[unsafe(no_mangle)]
@@ -51,47 +70,64 @@ pub extern "C" fn bench_place_report(
 ) -> u8
     ensures { Leaves (place_report_of (view net.old) sender receiver label list) result net.old net.new }
 {
-    memory::place_report(net, sender, receiver, label, list)
+    number(memory::place_report(net, Pair { sender, receiver }, HeldReport { label, list }))
 }
 
 #[unsafe(no_mangle)]
 pub extern "C" fn bench_change(net: &mut Network, sender: u32, receiver: u32, cost: u32) -> u8
     ensures { Leaves (change_of (view net.old) sender receiver cost) result net.old net.new }
 {
-    memory::change(net, sender, receiver, cost)
+    number(memory::change(net, Pair { sender, receiver }, cost))
 }
 
 #[unsafe(no_mangle)]
 pub extern "C" fn bench_grade(net: &mut Network, sender: u32, receiver: u32, value: u32) -> u8
     ensures { Leaves (grade_of (view net.old) sender receiver value) result net.old net.new }
 {
-    memory::grade(net, sender, receiver, value)
+    number(memory::grade(net, Pair { sender, receiver }, value))
 }
 
 #[unsafe(no_mangle)]
 pub extern "C" fn bench_round(net: &mut Network, marks: &[u32]) -> u8
     ensures { Leaves (round_of (view net.old) marks.now) result net.old net.new }
 {
-    routing::round(net, marks)
+    number(routing::round(net, marks))
 }
 
 #[unsafe(no_mangle)]
 pub extern "C" fn bench_full_round(net: &mut Network) -> u8
     ensures { Leaves (full_round_of (view net.old)) result net.old net.new }
 {
-    routing::full_round(net)
+    routing::full_round(net);
+    0
+}
+
+// The number of a refusal in a word.
+fn refusal(fault: Fault) -> u64
+    ensures { result ≡ fault_number fault }
+{
+    u64::from(u8::from(fault))
+}
+
+// Number and place of a refusal, or 0 and 0, and another number.
+fn three(stop: Option<Stop>, last: usize) -> [u64; 3]
+    ensures { result ≡ (stop_number stop ∷ stop_place stop ∷ last ∷ []) }
+{
+    match stop {
+        None => [0, 0, last as u64],
+        Some(stop) => [refusal(stop.fault), stop.place as u64, last as u64],
+    }
 }
 
 // Opening: number, place and bytes used in answer, and the network.
 #[unsafe(no_mangle)]
 pub extern "C" fn bench_open(input: &[u8], answer: &mut [u64; 3], net: &mut Network)
-    ensures { Opens (open_of input.now) (get_or answer.new 0 0) (get_or answer.new 1 0) (get_or answer.new 2 0) net.new }
+    ensures { OpensTo (open_of input.now) answer.new net.new }
 {
-    let found = opening::open_into(net, input);
-    let all: &mut [u64] = answer;
-    all[0] = found.number as u64;
-    all[1] = found.place as u64;
-    all[2] = found.used as u64;
+    *answer = match opening::open_into(net, input) {
+        Ok(used) => three(None, used),
+        Err(stop) => three(Some(stop), 0),
+    };
 }
 
 // A run: number, place and accepted rounds in answer, and the network.
@@ -99,11 +135,20 @@ pub extern "C" fn bench_open(input: &[u8], answer: &mut [u64; 3], net: &mut Netw
 pub extern "C" fn bench_run(input: &[u8], answer: &mut [u64; 3], net: &mut Network)
     ensures { RunsTo (run_of input.now) answer.new net.new }
 {
-    let end = running::run_into(net, input);
-    let all: &mut [u64] = answer;
-    all[0] = end.number as u64;
-    all[1] = end.place as u64;
-    all[2] = end.rounds as u64;
+    *answer = match running::run_into(net, input) {
+        Ok(run) => three(run.stop, run.rounds),
+        Err(stop) => three(Some(stop), 0),
+    };
+}
+
+// Number and length of what was written.
+fn two(written: Result<usize, Fault>) -> [u64; 2]
+    ensures { result ≡ (answered written ∷ result_unwrap_or written 0 ∷ []) }
+{
+    match written {
+        Ok(used) => [0, used as u64],
+        Err(fault) => [refusal(fault), 0],
+    }
 }
 
 // Image writing: number and bytes written in answer.
@@ -111,10 +156,7 @@ pub extern "C" fn bench_run(input: &[u8], answer: &mut [u64; 3], net: &mut Netwo
 pub extern "C" fn bench_image(net: &Network, out: &mut [u8], answer: &mut [u64; 2])
     ensures { WritesTo (image_of (view net.now) out.old) answer.new out.new }
 {
-    let written = image::write_image(net, out);
-    let all: &mut [u64] = answer;
-    all[0] = written.number as u64;
-    all[1] = written.used as u64;
+    *answer = two(image::write_image(net, out));
 }
 
 // A route: number and bytes written in answer.
@@ -122,10 +164,7 @@ pub extern "C" fn bench_image(net: &Network, out: &mut [u8], answer: &mut [u64; 
 pub extern "C" fn bench_route(net: &Network, node: u32, out: &mut [u8], answer: &mut [u64; 2])
     ensures { WritesTo (route_of (view net.now) node out.old) answer.new out.new }
 {
-    let written = route::route(net, node, out);
-    let all: &mut [u64] = answer;
-    all[0] = written.number as u64;
-    all[1] = written.used as u64;
+    *answer = two(route::route(net, node, out));
 }
 
 // Message writing: number and bytes written in answer.
@@ -138,28 +177,34 @@ pub extern "C" fn bench_write_messages(
 )
     ensures { WritesTo (write_of base (view net.now) out.old) answer.new out.new }
 {
-    let written = messages::write_messages(net, base, out);
-    let all: &mut [u64] = answer;
-    all[0] = written.number as u64;
-    all[1] = written.used as u64;
+    *answer = two(messages::write_messages(net, base, out));
 }
 
 // ---- reading
 
 // The words of what reading messages answers.
-const READ_WORDS: usize = response::NODES + 2;
+const READ_WORDS: usize = network::NODES + 2;
 
-fn put_read(number: u8, nodes: u32, metrics: &[u8], out: &mut [u64])
-    requires metrics_len { length metrics.now ≡ max_nodes }
-    requires out_len { length out.old ≡ max_nodes + 2 }
-    ensures { out.new ≡ (number ∷ nodes ∷ metrics.now) }
+// A node's metric; 0 where there are fewer.
+fn metric_at(metrics: &[u8], y: usize) -> u64
+    ensures { result ≡ get_or metrics.now y 0 }
 {
-    out[0] = number as u64;
-    out[1] = nodes as u64;
-    let mut i: usize = 0;
-    while i < response::NODES {
-        out[i + 2] = metrics[i] as u64;
-        i = i + 1;
+    if metrics.len() <= y {
+        return 0;
+    }
+    u64::from(metrics[y])
+}
+
+// Number 0, how many metrics there are, and the metrics in the places of 32 nodes.
+fn put_metrics(metrics: &[u8], out: &mut [u64])
+    requires few { length metrics.now ≤ max_nodes }
+    requires out_len { length out.old ≡ max_nodes + 2 }
+    ensures { out.new ≡ (0 ∷ length metrics.now ∷ places metrics.now) }
+{
+    out[0] = 0;
+    out[1] = metrics.len() as u64;
+    for y in 0..network::NODES {
+        out[y + 2] = metric_at(metrics, y);
     }
 }
 
@@ -173,33 +218,40 @@ pub extern "C" fn bench_read_messages(
 )
     ensures { answer.new ≡ read_words (read_of base n bytes.now) }
 {
-    let found = messages::read_messages(bytes, base, n);
-    let metrics = found.metrics;
-    put_read(found.number, found.nodes, &metrics, answer);
+    match messages::read_messages(bytes, base, n) {
+        Ok(metrics) => put_metrics(&metrics, answer),
+        Err(fault) => {
+            put_metrics(&[], answer);
+            answer[0] = refusal(fault);
+        }
+    }
 }
 
 // Stands for a predecessor where there is none.
-const NO_NODE: u64 = network::MAX_NODES as u64;
+const NO_NODE: u64 = network::NODES as u64;
 
-fn row_words(read: RowRead) -> [u64; 5]
+fn some_row_words(row: RowRead) -> [u64; 5]
+    ensures { result ≡ row_words_of (row_means (Ok row)) }
+{
+    match row {
+        RowRead::NoRoute => [0, 0, NO_NODE, 0, 0],
+        RowRead::Origin { list, hops } => [0, 0, NO_NODE, u64::from(list), u64::from(hops)],
+        RowRead::Relay { route, hops } => [
+            0,
+            u64::from(route.label),
+            u64::from(route.predecessor),
+            u64::from(route.list),
+            u64::from(hops),
+        ],
+    }
+}
+
+fn row_words(read: Result<RowRead, Fault>) -> [u64; 5]
     ensures { result ≡ row_words_of (row_means read) }
 {
     match read {
-        RowRead::Refused => [3, 0, NO_NODE, 0, 0],
-        RowRead::NoRoute => [0, 0, NO_NODE, 0, 0],
-        RowRead::Origin { list, hops } => [0, 0, NO_NODE, list as u64, hops as u64],
-        RowRead::Route {
-            label,
-            predecessor,
-            list,
-            hops,
-        } => [
-            0,
-            label as u64,
-            predecessor as u64,
-            list as u64,
-            hops as u64,
-        ],
+        Ok(row) => some_row_words(row),
+        Err(fault) => [refusal(fault), 0, NO_NODE, 0, 0],
     }
 }
 
@@ -211,10 +263,14 @@ pub extern "C" fn bench_row(net: &Network, node: u32, answer: &mut [u64; 5])
     *answer = row_words(memory::row(net, node));
 }
 
-fn arcs_words(read: ArcsRead) -> [u64; 2]
-    ensures { result ≡ arcs_words_of (arcs_means read) }
+// Number and value of what was read.
+fn value_words(read: Result<u32, Fault>) -> [u64; 2]
+    ensures { result ≡ (answered read ∷ result_unwrap_or read 0 ∷ []) }
 {
-    [read.number as u64, read.arcs as u64]
+    match read {
+        Ok(value) => [0, u64::from(value)],
+        Err(fault) => [refusal(fault), 0],
+    }
 }
 
 // A receiver's arcs: number and word in answer.
@@ -222,13 +278,7 @@ fn arcs_words(read: ArcsRead) -> [u64; 2]
 pub extern "C" fn bench_arcs(net: &Network, receiver: u32, answer: &mut [u64; 2])
     ensures { answer.new ≡ arcs_words_of (read_arcs (view net.now) receiver) }
 {
-    *answer = arcs_words(memory::arcs(net, receiver));
-}
-
-fn cost_words(read: CostRead) -> [u64; 2]
-    ensures { result ≡ cost_words_of (cost_means read) }
-{
-    [read.number as u64, read.cost as u64]
+    *answer = value_words(memory::arcs(net, receiver));
 }
 
 // A pair's cost: number and cost in answer.
@@ -236,16 +286,24 @@ fn cost_words(read: CostRead) -> [u64; 2]
 pub extern "C" fn bench_cost(net: &Network, sender: u32, receiver: u32, answer: &mut [u64; 2])
     ensures { answer.new ≡ cost_words_of (read_cost (view net.now) sender receiver) }
 {
-    *answer = cost_words(memory::arc_cost(net, sender, receiver));
+    *answer = value_words(memory::arc_cost(net, Pair { sender, receiver }));
 }
 
-fn held_words(read: HeldRead) -> [u64; 3]
+fn report_words(report: Option<HeldReport>) -> [u64; 3]
+    ensures { result ≡ held_words_of (held_means (Ok report)) }
+{
+    match report {
+        None => [0, 0, 0],
+        Some(report) => [0, u64::from(report.label), u64::from(report.list)],
+    }
+}
+
+fn held_words(read: Result<Option<HeldReport>, Fault>) -> [u64; 3]
     ensures { result ≡ held_words_of (held_means read) }
 {
     match read {
-        HeldRead::Refused => [3, 0, 0],
-        HeldRead::Empty => [0, 0, 0],
-        HeldRead::Report { label, list } => [0, label as u64, list as u64],
+        Ok(report) => report_words(report),
+        Err(fault) => [refusal(fault), 0, 0],
     }
 }
 
@@ -254,5 +312,5 @@ fn held_words(read: HeldRead) -> [u64; 3]
 pub extern "C" fn bench_held(net: &Network, sender: u32, receiver: u32, answer: &mut [u64; 3])
     ensures { answer.new ≡ held_words_of (read_held_of (view net.now) sender receiver) }
 {
-    *answer = held_words(memory::held(net, sender, receiver));
+    *answer = held_words(memory::held(net, Pair { sender, receiver }));
 }

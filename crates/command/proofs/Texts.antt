@@ -10,60 +10,52 @@ use lib.ListN.{length, get_or, take}
 use lib.Seq.{length-take-le, take_all}
 use borrow.Author.Tests.{lt-ltb, le-ltb, eq-eqb, ne_eqb}
 use Rattle.ancestors.proofs.Cases.{bool_cases, le_or_lt}
-use Rattle.filling.specs.Filling.{Wrote}
 use Rattle.network.specs.Network.{Net}
 use Rattle.network.proofs.Limits.{within_size}
 use Rattle.memory.specs.Layout.{view}
 use Rattle.records.specs.Numbers.{Bytes}
 use Rattle.records.specs.Running.{run_of}
-use Rattle.records.proofs.Each.{each_same}
 use Rattle.settling.proofs.RunCalls.{run_within}
-use Rattle.running.specs.Answers.{Ends}
-use Rattle.running.specs.declared.Ended.{Ended}
+use Rattle.records.specs.declared.Stop.{Stop}
+use Rattle.running.proofs.Finished.{StopsAt, Accepted}
+use Rattle.std.specs.Prelude.{Result, Ok, Err, IfErr, IsErrAnd}
+use Rattle.network.specs.Answered.{fault_number}
+use Rattle.network.specs.declared.Fault.{Fault}
+use Rattle.network.proofs.Answered.{fault_some}
 use Rattle.response.specs.Messages.{base_fault, count_fault, max_messages, row_messages}
-use Rattle.response.specs.Reading.{read_of, places, Reads}
-use Rattle.response.specs.declared.MetricsRead.{MetricsRead}
+use Rattle.response.specs.Reading.{read_of}
 use Rattle.response.proofs.Answering.{count_free}
-use Rattle.response.proofs.Callers.{place_at, read_few, read_long}
-use Rattle.text.specs.Text.{max_input, stop_line, last_line, too_long}
-use Rattle.text.proofs.Stopping.{last_stop}
-use Rattle.command.specs.Saying.{Saying, on_output, on_error, refused_line, metric_line, node_lines, run_text, write_text_of, metrics_text, read_text, Says}
+use Rattle.response.proofs.Callers.{read_long}
+use Rattle.text.specs.Text.{max_input, stop_line, too_long}
+use Rattle.command.specs.Saying.{Saying, on_output, on_error, refused_line, metric_line, node_lines, run_text, write_text_of, metrics_text, read_text, refusal_text}
 use Rattle.command.specs.Enough.{InputEnough}
-use Rattle.command.specs.Inner.{Holds}
-use Rattle.command.specs.declared.Said.{Said}
-
--- a line for standard error, and bytes for standard output
-module _ {s : Saying} {w e x : List ℕ} {k : ℕ} {r : Said} where
-  pub says_error : s ≡ on_error w → Wrote w e x k → Holds true k r → Says s r e x
-  says_error p h q = rw p (record { is_error = q.is_error; wrote = rw q.used_is h })
-
-  pub says_output : s ≡ on_output w → Wrote w e x k → Holds false k r → Says s r e x
-  says_output p h q = rw p (record { is_error = q.is_error; wrote = rw q.used_is h })
-
--- the same in other words
-pub says_as : {s t : Saying} {r : Said} {e x : List ℕ} → s ≡ t → Says t r e x → Says s r e x
-says_as p h = rw p h
+use Rattle.command.specs.declared.Refusal.{Refusal}
+use Rattle.command.specs.declared.Refusal.TheVariants.{Refused, Stopped}
 
 -- ---- writing
 
-module _ (base : ℕ) (s : List ℕ) (e : Ended) (words : List ℕ) (ends : Ends s e words) where
+module _ (base : ℕ) (s : List ℕ) where
   -- a run that is refused anywhere
-  pub run_stops : e.number ≢ 0 → run_text base (run_of s) ≡ on_error (last_line e.number e.place)
-  unfolding run_text
-  run_stops h =
-      rw (ne_eqb (run_of s).number 0 (λ z. h (ends.number ∙ z)))
-      (ap on_error (ap₂ stop_line (sym ends.number) (sym ends.place) ∙ sym (last_stop e.number e.place h)))
+  pub run_stops : (t : Stop) → StopsAt s t → run_text base (run_of s) ≡ refusal_text (Stopped t)
+  unfolding run_text refusal_text
+  run_stops t h =
+      rw (ne_eqb (run_of s).number 0 (λ z. fault_some t.fault (h.number ∙ z))) (ap on_error (ap₂ stop_line (sym h.number) (sym h.place)))
 
   -- one that is not
-  pub run_writes : e.number ≡ 0 → run_text base (run_of s) ≡ on_output (row_messages base (view words))
+  pub run_writes : {n : ℕ} → Accepted s n → run_text base (run_of s) ≡ on_output (row_messages base (run_of s).net)
   unfolding run_text
-  run_writes h = rw (eq-eqb (run_of s).number 0 (sym ends.number ∙ h)) (ap (λ (x : Net). on_output (row_messages base x)) (sym ends.net))
+  run_writes h = rw (eq-eqb (run_of s).number 0 h.number)
 
-  -- its network has a right number of nodes
-  pub run_count : Bytes s → count_fault (view words).nodes ≡ false
-  run_count b =
-      let h = within_size (run_of s).net (run_within s b) in
-      ap (λ (x : Net). count_fault x.nodes) ends.net ∙ count_free (run_of s).net.nodes h.0 h.1
+-- the network of a run has a right number of nodes
+pub run_count : (s : List ℕ) → Bytes s → count_fault (run_of s).net.nodes ≡ false
+run_count s b =
+    let h = within_size (run_of s).net (run_within s b) in
+    count_free (run_of s).net.nodes h.0 h.1
+
+-- what is said of a refusal
+pub said_err : {A : Type 0} (t : Saying) (r : Result A Refusal) (a : Refusal) → IsErrAnd r (λ x. x ≡ a) → t ≡ refusal_text a → IfErr r (λ x. t ≡ refusal_text x)
+said_err t (Ok x) a h e = absurd h
+said_err t (Err x) a h e = e ∙ ap refusal_text (sym h)
 
 module _ (base : ℕ) (s : List ℕ) where
   pub write_refused : base_fault base ≡ true → write_text_of base s ≡ on_error (refused_line 13)
@@ -80,28 +72,14 @@ module _ (base : ℕ) (s : List ℕ) where
 
 -- ---- reading
 
--- the lines of the metrics in their places
-lines_places : (ms : List ℕ) → node_lines (places ms) (length ms) ≡ node_lines ms (length ms)
-unfolding node_lines
-lines_places ms =
-    each_same (λ y. metric_line y (get_or (places ms) y 0)) (λ y. metric_line y (get_or ms y 0)) 0 (length ms)
-    (λ y a b. ap (metric_line y) (place_at ms y (omega arith)))
+module _ (base n : ℕ) (s : List ℕ) where
+  pub read_stops : (f : Fault) → fault_number f ≡ (read_of base n s).number → read_text base n s ≡ refusal_text (Refused f)
+  unfolding read_text metrics_text refusal_text
+  read_stops f e = rw (← e, ne_eqb (fault_number f) 0 (fault_some f))
 
-module _ (base n : ℕ) (s : List ℕ) (r : MetricsRead) (reads : Reads (read_of base n s) r) where
-  pub read_stops : r.number ≢ 0 → read_text base n s ≡ on_error (refused_line r.number)
+  pub read_prints : 0 ≡ (read_of base n s).number → {ms : List ℕ} → ms ≡ (read_of base n s).metrics → read_text base n s ≡ on_output (node_lines ms (length ms))
   unfolding read_text metrics_text
-  read_stops h =
-      rw (ne_eqb (read_of base n s).number 0 (λ z. h (reads.number ∙ z))) (ap (λ (k : ℕ). on_error (refused_line k)) (sym reads.number))
-
-  pub read_prints : r.number ≡ 0 → read_text base n s ≡ on_output (node_lines r.metrics r.nodes)
-  unfolding read_text metrics_text
-  read_prints h =
-      rw (eq-eqb (read_of base n s).number 0 (sym reads.number ∙ h))
-      (ap on_output (sym (lines_places (read_of base n s).metrics) ∙ ap₂ node_lines (sym reads.metrics) (sym reads.nodes)))
-
-  -- there are not more nodes than 32
-  pub read_most : r.nodes ≤ 32
-  read_most = omega (arith, reads.nodes, read_few base n s)
+  read_prints e m = rw (← e, m)
 
 -- ---- the part of the input that decides
 

@@ -1,3 +1,2 @@
 pub mod Saying
 pub mod Enough
-pub mod Inner

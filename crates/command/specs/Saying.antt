@@ -1,13 +1,14 @@
 -- Change request Three, the program `rip`: what it says, every byte, on standard output or on standard error.
 -- Assumes nothing.
-use Rattle.std.specs.Prelude.{◌≡◌, Bool, true, false, cond, List, [], ◌∷◌, ◌++◌, ℕ, eqb, ltb, length, get_or}
-use Rattle.filling.specs.Filling.{Wrote}
+use Rattle.std.specs.Prelude.{Bool, true, false, cond, List, [], ◌∷◌, ◌++◌, ℕ, eqb, ltb, length, get_or}
+use Rattle.network.specs.Answered.{fault_number}
 use Rattle.records.specs.Image.{each}
 use Rattle.records.specs.Running.{Running, run_of}
 use Rattle.response.specs.Messages.{base_fault, row_messages}
 use Rattle.response.specs.Reading.{Reading, read_of}
 use Rattle.text.specs.Text.{max_input, decimal, field, newline, stop_line, too_long}
-use Rattle.command.specs.declared.Said.{Said}
+use Rattle.command.specs.declared.Refusal.{Refusal}
+use Rattle.command.specs.declared.Refusal.TheVariants.{Usage, TooLong, Refused, Stopped}
 
 -- bytes for standard output, or a line for standard error; the other stays empty
 pub record Saying : Type 0 where
@@ -67,9 +68,11 @@ metrics_text o = cond (eqb o.number 0) (on_output (node_lines o.metrics (length 
 unfoldable pub read_text : ℕ → ℕ → List ℕ → Saying
 read_text base n input = metrics_text (read_of base n input)
 
--- ---- a call
+-- ---- refusals
 
--- r says whether it is an error, and its bytes stand at the front of the output `entry`, which was left as `exit`
-pub record Says (s : Saying) (r : Said) (entry exit : List ℕ) : Type 0 where
-  pub is_error : r.is_error ≡ s.is_error
-  pub wrote : Wrote s.bytes entry exit r.used
+-- what is said of each case
+unfoldable pub refusal_text : Refusal → Saying
+refusal_text Usage = usage_text
+refusal_text TooLong = on_error too_long
+refusal_text (Refused f) = on_error (refused_line (fault_number f))
+refusal_text (Stopped s) = on_error (stop_line (fault_number s.fault) s.place)

@@ -3,123 +3,171 @@
 // Contracts go by specs/Saying.antt and hold for any bytes. No public function has a precondition.
 #![tactic(auto)]
 
-ghost use Rattle.std.specs.Prelude.{◌≡◌, false, ◌+◌, ◌-◌, ◌≤◌, length};
-ghost use Rattle.filling.specs.Filling.{Wrote};
-ghost use Rattle.text.specs.Filled.{Filled};
+ghost use Rattle.std.specs.Prelude.{◌≡◌, ◌++◌, false, ◌+◌, ◌*◌, ◌≤◌, length, IfOk, IfErr};
+ghost use Rattle.network.specs.Answered.{fault_number};
+ghost use Rattle.text.specs.Text.{stop_line};
 ghost use Rattle.records.specs.Running.{run_of};
-ghost use Rattle.response.specs.Messages.{base_fault};
-ghost use Rattle.command.specs.Saying.{refused_line, metric_line, node_lines, usage_text, run_text, write_text_of, read_text, Says};
-ghost use Rattle.command.specs.Inner.{Holds};
+ghost use Rattle.response.specs.Messages.{base_fault, count_fault, row_messages};
+ghost use Rattle.memory.specs.Layout.{view};
+ghost use Rattle.command.specs.Saying.{on_output, on_error, refused_line, metric_line, node_lines, refusal_text, run_text, write_text_of, read_text};
+ghost use Rattle.command.specs.declared.Refusal.TheVariants.{Refused, Stopped};
+
+use arrayvec::ArrayVec;
+use memory::Network;
+use network::Fault;
+use records::Stop;
+
+// The bytes of a text with room for all that the program writes to standard output.
+pub const MAX_SAID: usize = 4096;
+
+pub type Said = ArrayVec<u8, MAX_SAID>;
+
+// The bytes of a text with room for each line for standard error.
+pub const MAX_LINE: usize = 64;
+
+pub type Line = ArrayVec<u8, MAX_LINE>;
+
+// Why nothing is written to standard output.
+#[derive(Clone, Copy)]
+pub enum Refusal {
+    // Arguments that can't be read.
+    Usage,
+    TooLong,
+    Refused(Fault),
+    Stopped(Stop),
+}
+
+impl From<Fault> for Refusal {
+    ghost from_gives = { λ fault refusal. refusal ≡ Refused fault };
+
+    fn from(fault: Fault) -> Refusal {
+        Refusal::Refused(fault)
+    }
+}
+
+impl From<Stop> for Refusal {
+    ghost from_gives = { λ stop refusal. refusal ≡ Stopped stop };
+
+    fn from(stop: Stop) -> Refusal {
+        Refusal::Stopped(stop)
+    }
+}
 
 // ---- lines
 
-// What the program says: the bytes at the front of the output, for standard error or for standard output.
-#[derive(Drop)]
-pub struct Said {
-    pub is_error: bool,
-    pub used: usize,
+// A line of these bytes.
+#[tactic(auto, using(text::proofs::Adding::pushes))]
+fn line(bytes: &[u8]) -> Line
+    requires { length bytes.now ≤ 64 }
+    ensures { result.items ≡ bytes.now }
+{
+    let mut line = Line::new();
+    text::push_text(&mut line, bytes);
+    line
 }
 
-// The bytes of an output with room for all that the program says.
-pub const MAX_SAID: usize = 4096;
-
-fn said_of(error: bool, used: usize) -> Said
-    ensures { Holds error used result }
+// The number of a refusal.
+#[tactic(auto, using(text::proofs::Adding::pushes), unfolding(crate::specs::Saying::refused_line, text::specs::Text::field))]
+fn refused(fault: Fault) -> Line
+    ensures { result.items ≡ refused_line (fault_number fault) }
 {
-    Said {
-        is_error: error,
-        used,
+    let mut line = Line::new();
+    text::push_number(&mut line, b"refused ", usize::from(u8::from(fault)));
+    text::push_text(&mut line, b"\n");
+    line
+}
+
+// Number and place of a refusal.
+#[tactic(auto, using(text::proofs::Adding::pushes, text::proofs::Stopping::stop_most))]
+fn stopped(stop: Stop) -> Line
+    ensures { result.items ≡ stop_line (fault_number stop.fault) stop.place }
+{
+    let mut line = Line::new();
+    text::push_stop(&mut line, u8::from(stop.fault), stop.place);
+    line
+}
+
+// The line of a refusal, for standard error.
+pub fn line_of(refusal: Refusal) -> Line
+    ensures { on_error result.items ≡ refusal_text refusal }
+{
+    match refusal {
+        Refusal::Usage => line(b"usage: rip BASE <run >messages, or rip -r BASE N <messages\n"),
+        Refusal::TooLong => line(b"too long\n"),
+        Refusal::Refused(fault) => refused(fault),
+        Refusal::Stopped(stop) => stopped(stop),
     }
-}
-
-// The line of a refusal.
-fn put_refused(number: u8, out: &mut [u8]) -> usize
-    requires { 29 ≤ length out.old }
-    ensures { Wrote (refused_line number) out.old out.new result }
-{
-    let end = text::put_number(b"refused ", number as usize, out, 0);
-    text::put_text(b"\n", out, end)
 }
 
 // The line of a node.
-fn put_metric(node: usize, metric: u8, out: &mut [u8], at: usize) -> usize
-    requires { at + 42 ≤ length out.old }
-    ensures { Filled 42 (metric_line node metric) out.old out.new at result }
+#[tactic(auto, using(text::proofs::Adding::pushes), unfolding(crate::specs::Saying::metric_line, text::specs::Text::field))]
+fn push_metric(said: &mut Said, node: usize, metric: u8)
+    requires { length said.old.items + 42 ≤ 4096 }
+    ensures items { said.new.items ≡ said.old.items ++ metric_line node metric }
+    ensures most { length said.new.items ≤ length said.old.items + 42 }
 {
-    let next = text::put_number(b"", node, out, at);
-    let end = text::put_number(b" ", metric as usize, out, next);
-    text::put_text(b"\n", out, end)
+    text::push_number(said, b"", node);
+    text::push_number(said, b" ", usize::from(metric));
+    text::push_text(said, b"\n");
 }
 
-// The lines of n nodes.
-fn put_metrics(metrics: &[u8; response::NODES], n: usize, out: &mut [u8]) -> usize
-    requires n_bound { n ≤ 32 }
-    requires room { 1344 ≤ length out.old }
-    ensures { Wrote (node_lines metrics.now n) out.old out.new result }
+// The lines of the nodes.
+fn metric_lines(metrics: &[u8]) -> Said
+    requires { length metrics.now ≤ 32 }
+    ensures { result.items ≡ node_lines metrics.now (length metrics.now) }
 {
-    let mut at: usize = 0;
-    let mut node: usize = 0;
-    while node < n {
-        at = put_metric(node, metrics[node], out, at);
-        node = node + 1;
+    let mut said = Said::new();
+    for (node, &metric) in metrics.iter().enumerate() {
+        push_metric(&mut said, node, metric);
     }
-    at
+    said
 }
 
-// ---- what the program says
+// ---- what the program writes
 
-// Of arguments that can't be read.
-pub fn usage_said(out: &mut [u8; MAX_SAID]) -> Said
-    ensures { Says usage_text result out.old out.new }
+// The messages of a network. They have room, so that the call is accepted.
+fn messages_of(net: &Network, base: u32) -> Said
+    requires base_right { base_fault base ≡ false }
+    requires count_right { count_fault (view net.now).nodes ≡ false }
+    ensures { result.items ≡ row_messages base (view net.now) }
 {
-    let all: &mut [u8] = out;
-    said_of(
-        true,
-        filling::copy(
-            b"usage: rip BASE <run >messages, or rip -r BASE N <messages\n",
-            all,
-        ),
-    )
+    let mut room = [0u8; response::MAX_MESSAGES];
+    let used = messages::write_messages(net, base, &mut room).unwrap_or(0);
+    let mut said = Said::new();
+    text::push_text(&mut said, &room[..used]);
+    said
 }
 
-// Of a run.
-fn run_said(base: u32, input: &[u8], out: &mut [u8]) -> Said
-    requires base_sound { base_fault base ≡ false }
-    requires room { 4096 ≤ length out.old }
-    ensures { Says (run_text base (run_of input.now)) result out.old out.new }
+// Of a run: its messages.
+fn run_said(base: u32, input: &[u8]) -> Result<Said, Refusal>
+    requires { base_fault base ≡ false }
+    ensures output { IfOk result (λ said. run_text base (run_of input.now) ≡ on_output said.items) }
+    ensures line { IfErr result (λ refusal. run_text base (run_of input.now) ≡ refusal_text refusal) }
 {
     let mut net = [0u32; memory::WORDS];
-    let run = running::run_into(&mut net, input);
-    if run.number != 0 {
-        return said_of(true, text::put_stop(run.number, run.place, out, 0));
-    }
-    let written = messages::write_messages(&net, base, out);
-    said_of(false, written.used)
+    running::run_into(&mut net, input)?.finished()?;
+    Ok(messages_of(&net, base))
 }
 
 // Of a base and a run: the messages; or why there are none.
-pub fn write_said(base: u32, input: &[u8], out: &mut [u8; MAX_SAID]) -> Said
-    ensures { Says (write_text_of base input.now) result out.old out.new }
+pub fn write_said(base: u32, input: &[u8]) -> Result<Said, Refusal>
+    ensures output { IfOk result (λ said. write_text_of base input.now ≡ on_output said.items) }
+    ensures line { IfErr result (λ refusal. write_text_of base input.now ≡ refusal_text refusal) }
 {
-    let all: &mut [u8] = out;
     if response::base_refused(base) {
-        return said_of(true, put_refused(13, all));
+        return Err(Refusal::Refused(Fault::Base));
     }
     if text::MAX_INPUT < input.len() {
-        return said_of(true, filling::copy(b"too long\n", all));
+        return Err(Refusal::TooLong);
     }
-    run_said(base, input, all)
+    run_said(base, input)
 }
 
-// Of a base, n and messages: a line for each node; or the number with which they are refused.
-pub fn read_said(base: u32, n: u32, input: &[u8], out: &mut [u8; MAX_SAID]) -> Said
-    ensures { Says (read_text base n input.now) result out.old out.new }
+// Of a base, n and messages: a line for each node; or why they are refused.
+pub fn read_said(base: u32, n: u32, input: &[u8]) -> Result<Said, Refusal>
+    ensures output { IfOk result (λ said. read_text base n input.now ≡ on_output said.items) }
+    ensures line { IfErr result (λ refusal. read_text base n input.now ≡ refusal_text refusal) }
 {
-    let all: &mut [u8] = out;
-    let read = messages::read_messages(input, base, n);
-    if read.number != 0 {
-        return said_of(true, put_refused(read.number, all));
-    }
-    let metrics = read.metrics;
-    said_of(false, put_metrics(&metrics, read.nodes as usize, all))
+    let metrics = messages::read_messages(input, base, n)?;
+    Ok(metric_lines(&metrics))
 }

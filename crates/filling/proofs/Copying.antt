@@ -1,20 +1,13 @@
--- Bytes copied, one by one and as a whole.
+-- Bytes copied as a whole: none in a shorter output, and all where there is room.
 -- Assumes nothing.
-use mathlib.Core.Path.{◌≡◌, sym, ap, ◌∙◌}
+use mathlib.Core.Path.{◌≡◌, sym}
 use mathlib.Core.List.{List, []}
 use Prim.Native.Nat.{ℕ, ◌+◌, ◌<◌, ◌≤◌}
 use native.Mathlib.Omega.{arith}
-use native.Mathlib.Numerals.{add-one}
-use lib.ListN.{length, take, drop, set, get_or}
-use lib.Seq.{take-suc}
+use lib.ListN.{length, take, drop}
 use borrow.Author.Tests.{lt-ltb, le-ltb}
 use Rattle.filling.specs.Filling.{Wrote, copied}
-use Rattle.filling.proofs.Parts.{wrote_as, front_added, added_byte, added_front, part_size}
-
--- one byte more of the bytes b is copied
-pub wrote_next : (b e x : List ℕ) (i : ℕ) → Wrote (take i b) e x i → i < length b → i < length e → Wrote (take (i + 1) b) e (set x i (get_or b i 0)) (i + 1)
-wrote_next b e x i h p q =
-    wrote_as (ap (λ (k : ℕ). take k b) (add-one i) ∙ take-suc b i 0 p) (added_front (added_byte (get_or b i 0) (front_added h) q))
+use Rattle.filling.proofs.Parts.{wrote_as, part_size}
 
 module _ (b e : List ℕ) where
   -- in a shorter output

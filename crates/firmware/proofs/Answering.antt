@@ -1,14 +1,12 @@
 -- What the answer of the C call tells: its remainder by 32 is 0 exactly where the image is written.
 -- Assumes nothing.
-use mathlib.Core.Path.{◌≡◌, sym, ap, ◌∙◌}
-use mathlib.Core.Logic.{◌⊎◌, inl, inr, ◌≢◌}
+use mathlib.Core.Path.{◌≡◌, refl, sym, ap, ◌∙◌}
 use mathlib.Core.List.{List}
 use Prim.Native.Nat.{ℕ, ◌*◌, ◌/◌, ◌%◌, ◌<◌, ◌≤◌}
 use native.Mathlib.Omega.{arith}
 use lib.ListN.{length, drop}
 use Rattle.network.specs.Faults.{FileNumber, early}
 use Rattle.network.proofs.Numbers.{number_fits}
-use Rattle.ancestors.proofs.Cases.{eq_or_ne, le_or_lt}
 use Rattle.records.specs.Numbers.{Bytes}
 use Rattle.records.specs.Image.{image, max_image}
 use Rattle.records.specs.Opening.{accepted_opening, open_of}
@@ -19,9 +17,9 @@ use Rattle.records.proofs.Places.{run_small}
 use Rattle.records.proofs.Begun.{run_image}
 use Rattle.settling.specs.Calls.{rounds_heard}
 use Rattle.settling.proofs.RunCalls.{run_within, run_settles}
-use Rattle.firmware.specs.Calling.{Called, max_run, refused_answer, call_of, CallIs, refused, written}
+use Rattle.firmware.specs.Calling.{Called, max_run, refused_answer, refused_call, call_of, CallIs, refused, written}
 use Rattle.firmware.specs.Demand.{OpensPromised, CallSettles}
-use Rattle.firmware.proofs.Calling.{call_long, call_refused, call_short, call_written}
+use Rattle.firmware.proofs.Calling.{call_by, call_written}
 
 -- number and place of a refusal
 number_part : (number place : ℕ) → number < 32 → refused_answer number place % 32 ≡ number
@@ -40,32 +38,18 @@ length_part : (k : ℕ) → 32 * k / 32 ≡ k
 length_part k = omega arith
 
 module _ (run out : List ℕ) where
-  told : (number place : ℕ) → 0 < number → FileNumber number → place ≤ length run → call_of run out ≡ record { answer = refused_answer number place; output = out }
-      → CallIs run out (call_of run out)
-  told number place a b p e =
-      refused number place a b p (ap (λ (o : Called). o.answer % 32) e ∙ number_part number place (number_fits number b))
-      (ap (λ (o : Called). o.answer / 32) e ∙ place_part number place (number_fits number b)) (ap (λ (o : Called). o.output) e)
+  -- a refusal is told by its number and its place
+  told : (number place : ℕ) → 0 < number → FileNumber number → place ≤ length run → CallIs run out (refused_call number place out)
+  told number place a b p =
+      let small = number_fits number b in
+      refused number place a b p (number_part number place small) (place_part number place small) refl
 
   pub call_is : CallIs run out (call_of run out)
-  call_is = by_length (le_or_lt (length run) max_run)
-    where
-      by_room : length run ≤ max_run → (run_of run).number ≡ 0
-          → (length (image (run_of run).net) ≤ length out) ⊎ (length out < length (image (run_of run).net)) → CallIs run out (call_of run out)
-      by_room h z (inl fits) =
-          let e = call_written run out h z fits in
-          let k = length (image (run_of run).net) in
-          written z (ap (λ (o : Called). o.answer % 32) e ∙ length_rest k) (ap (λ (o : Called). o.answer / 32) e ∙ length_part k)
-          (ap (λ (o : Called). o.output) e)
-      by_room h z (inr short) = told 6 0 (omega arith) (early (omega arith)) (omega arith) (call_short run out h z short)
-
-      by_number : length run ≤ max_run → ((run_of run).number ≡ 0) ⊎ ((run_of run).number ≢ 0) → CallIs run out (call_of run out)
-      by_number h (inl z) = by_room h z (le_or_lt (length (image (run_of run).net)) (length out))
-      by_number h (inr n) =
-          told (run_of run).number (run_of run).place (omega (arith, n)) (run_small run).0 (run_small run).1 (call_refused run out h n)
-
-      by_length : (length run ≤ max_run) ⊎ (max_run < length run) → CallIs run out (call_of run out)
-      by_length (inl h) = by_number h (eq_or_ne (run_of run).number 0)
-      by_length (inr h) = told 3 0 (omega arith) (early (omega arith)) (omega arith) (call_long run out h)
+  call_is =
+      call_by run out (CallIs run out) (told 3 0 (omega arith) (early (omega arith)) (omega arith))
+      (λ _ n. told (run_of run).number (run_of run).place (omega (arith, n)) (run_small run).0 (run_small run).1)
+      (told 6 0 (omega arith) (early (omega arith)) (omega arith))
+      (λ z. let k = length (image (run_of run).net) in written z (length_rest k) (length_part k) refl)
 
   module _ (bytes : Bytes run) where
     -- an output as long as the largest image has room for every image

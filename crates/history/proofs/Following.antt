@@ -64,7 +64,7 @@ history_follows xs cs ks zs h = follow h
 -- words that an accepted call left give a network that it answers
 begun_answered : {xs : List ℕ} → Begun xs → Answered (view xs)
 begun_answered (fresh_left n origin s) = by_fresh n origin (sym s.number) (sym s.net)
-begun_answered (open_left bs place used bytes o) = subst Answered (sym o.net_is) (open_answers bs bytes (sym o.number_is))
+begun_answered (open_left bs used bytes o) = subst Answered (sym o.net_is) (open_answers bs bytes (sym o.number_is))
 
 pub words_settle : WordsSettle
 words_settle xs b before stretch ks zs h W s =

@@ -1,12 +1,13 @@
 -- Calls made on words that a caller lends, one after the other, each as its contract says; and demand 3 of the words after them.
 -- Assumes nothing.
-use Rattle.std.specs.Prelude.{◌≡◌, List, [], ◌∷◌, ◌++◌, ℕ}
+use Rattle.std.specs.Prelude.{◌≡◌, List, [], ◌∷◌, ◌++◌, Result, Ok, ℕ}
 use Rattle.network.specs.Network.{Net, fresh_of}
 use Rattle.network.specs.Round.{round_of, full_round_of}
 use Rattle.network.specs.Change.{change_of, grade_of}
 use Rattle.network.specs.Route.{route_of}
 use Rattle.network.specs.Writing.{Writes}
-use Rattle.network.specs.declared.Written.{Written}
+use Rattle.network.specs.Answered.{answered}
+use Rattle.network.specs.declared.Fault.{Fault}
 use Rattle.memory.specs.Layout.{view}
 use Rattle.memory.specs.Answers.{Leaves, Starts}
 use Rattle.records.specs.Numbers.{Bytes}
@@ -22,8 +23,8 @@ pub data CallMade : Call → ℕ → List ℕ → List ℕ → Type 0 where
   by_grade : {s r g k : ℕ} {entry exit : List ℕ} → Leaves (grade_of (view entry) s r g) k entry exit → CallMade (grade s r g) k entry exit
   by_round : {k : ℕ} {ms entry exit : List ℕ} → Leaves (round_of (view entry) ms) k entry exit → CallMade (round ms) k entry exit
   by_full_round : {k : ℕ} {entry exit : List ℕ} → Leaves (full_round_of (view entry)) k entry exit → CallMade full_round k entry exit
-  by_route : {y : ℕ} {entry out output : List ℕ} {w : Written} → Writes (route_of (view entry) y out) w output → CallMade (route y out) w.number entry entry
-  by_image : {entry out output : List ℕ} {w : Written} → Writes (image_of (view entry) out) w output → CallMade (write_image_of out) w.number entry entry
+  by_route : {y : ℕ} {entry out output : List ℕ} {r : Result ℕ Fault} → Writes (route_of (view entry) y out) r output → CallMade (route y out) (answered r) entry entry
+  by_image : {entry out output : List ℕ} {r : Result ℕ Fault} → Writes (image_of (view entry) out) r output → CallMade (write_image_of out) (answered r) entry entry
 
 -- calls made in order, with the numbers that they answered, each on the words that the call before it left; nothing else writes them meanwhile
 pub data History : List ℕ → List Call → List ℕ → List ℕ → Type 0 where
@@ -47,7 +48,7 @@ HistoryFollows = (xs : List ℕ) (cs : List Call) (ks zs : List ℕ) → History
 -- words that an accepted `make_fresh` or `open_into` call left, as its contract says
 pub data Begun (xs : List ℕ) : Type 0 where
   fresh_left : (n origin : ℕ) → Starts (fresh_of n origin) 0 xs → Begun xs
-  open_left : (bs : List ℕ) (place used : ℕ) → Bytes bs → Opens (open_of bs) 0 place used xs → Begun xs
+  open_left : (bs : List ℕ) (used : ℕ) → Bytes bs → Opens (open_of bs) (Ok used) xs → Begun xs
 
 -- demand 3 of the words: for every history from such words, every W, and every cut of its calls into what comes before and the stretch, the
 -- promises hold of the network that the last words give

@@ -1,4 +1,4 @@
-// A reader's bytes, read to its end.
+// Standard input of programs: a reader's bytes, read to its end, and what is said where a read or a write failed.
 #![tactic(auto)]
 
 ghost use Rattle.std.specs.Prelude.{◌≤◌, length, IfOk};
@@ -10,13 +10,20 @@ use std::io::Read;
 pub fn read_all<R: Read>(reader: &mut R, buf: &mut [u8]) -> io::Result<usize>
     ensures { IfOk result (λ n. n ≤ length buf.old) }
 {
-    let mut at: usize = 0;
+    let mut at = 0;
+    // A `while`: the reader says when it ends, so there is no count and no collection to go over.
     while at < buf.len() {
         let bytes = reader.read(&mut buf[at..])?;
         if bytes == 0 {
             break;
         }
-        at = at + bytes;
+        at += bytes;
     }
     Ok(at)
+}
+
+// Says on standard error what failed in a program; if that fails too, nothing is left to say.
+// It has no contract: no clause of `Eprint` says which bytes are printed.
+pub fn fail(rt: &impl Eprint, program: &str, what: &str, error: io::Error) {
+    let _said = eprintln!(rt; "{program}: {what}: {error}");
 }

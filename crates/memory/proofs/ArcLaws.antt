@@ -8,7 +8,7 @@ use mathlib.Core.List.{List}
 use Prim.Native.Nat.{ℕ, ◌+◌, ◌*◌, ◌<◌, ◌≤◌}
 use native.Mathlib.Omega.{arith}
 use lib.Bits.{bit_and, and_le_r}
-use Rattle.ancestors.specs.Ancestors.{has, those}
+use Rattle.ancestors.specs.Ancestors.{has}
 use Rattle.ancestors.proofs.Sets.{has_and, those_has, those_ext}
 use Rattle.ancestors.proofs.Cases.{le_or_lt}
 use Rattle.ancestors.proofs.Laws.{has_beyond}
@@ -19,10 +19,14 @@ use Rattle.network.specs.Arcs.{arcs_to, senders}
 use Rattle.network.specs.Words.{report_of, cost_of}
 use Rattle.network.proofs.Arcs.{arcs_exact, arcs_fit, senders_has, senders_fit}
 use Rattle.network.proofs.FaultLaws.{pair_says}
+use borrow.Author.Tests.{lt-ltb}
 use Rattle.memory.specs.Layout.{present, look, view, arc_bits, pair_word_of, cost_word_of, held_label_word_of, held_list_word_of, arc_costs, held_labels, held_lists}
 use Rattle.memory.proofs.Laws.{few}
 use Rattle.memory.proofs.Store.{Has, present_pair, read_cost_lem, read_held, cost_none, held_none, arc_is, arc_beyond}
-use Rattle.memory.proofs.Reading.{pair_word_in}
+
+pair_word_in : (xs : List ℕ) (b s r : ℕ) → s < max_nodes → r < max_nodes → look xs (b + (r * 32 + s)) ≡ pair_word_of xs b s r
+unfolding pair_word_of
+pair_word_in xs b s r h k = rw (lt-ltb s max_nodes h, lt-ltb r max_nodes k)
 
 module _ (xs : List ℕ) (s r : ℕ) where
   -- bit s of the word of r's arcs
@@ -58,11 +62,6 @@ module _ (xs : List ℕ) (s r : ℕ) where
 
     pub no_report : (view xs).held s r ≡ empty
     no_report = held_none xs s r (sym arc_bit ∙ e)
-
--- a receiver that is no node has no arcs
-pub arcs_none : (xs : List ℕ) (r : ℕ) → (view xs).nodes ≤ r → arcs_to (view xs) r ≡ 0
-unfolding arcs_to those every_arc
-arcs_none xs r h = those_ext (λ s. every_arc (view xs) s r) (λ s. false) max_nodes (λ s _. sym (arc_is xs s r) ∙ arc_beyond xs s r (inr h))
 
 -- ---- the stored word
 

@@ -16,7 +16,7 @@ use Rattle.network.proofs.FaultLaws.{node_free}
 use Rattle.network.proofs.Effects.{outcome_number, refused_net, accepted_net}
 use Rattle.memory.specs.Layout.{word, row_of, node_row, net_of, frame_in, look, view, list_word_of, row_labels, row_predecessors, row_lists}
 use Rattle.memory.specs.Answers.{Leaves, Starts, RowAnswer, row_hops, read_row, row_means, arcs_means, CostAnswer, read_cost, cost_means, held_means}
-use Rattle.std.specs.Prelude.{Option, Some, None, Result, Ok, Err}
+use Rattle.std.specs.Prelude.{Some, None, Result, Ok, Err}
 use Rattle.network.specs.Answered.{fault_number}
 use Rattle.network.specs.declared.Fault.{Fault}
 use Rattle.network.specs.declared.Route.{Route}

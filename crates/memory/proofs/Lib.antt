@@ -4,6 +4,5 @@ pub mod Laws
 pub mod Store
 mod Starting
 mod Changing
-mod Reading
 pub mod ArcLaws
 mod Placing

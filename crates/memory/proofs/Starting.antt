@@ -1,25 +1,21 @@
 -- The fresh network in memory: zeros but for n and the origin.
 -- Assumes nothing.
 use mathlib.Core.Path.{◌≡◌, refl, ap, ◌∙◌}
-use mathlib.Core.Bool.{true, false, cond, not, and-false}
-use mathlib.Core.Logic.{◌≢◌}
+use mathlib.Core.Bool.{false, cond, not, and-false}
 use mathlib.Core.List.{List}
-use Prim.Native.Nat.{ℕ, zero, suc, ◌+◌, ◌<◌, ◌≤◌, min}
+use Prim.Native.Nat.{ℕ, zero, suc, ◌+◌, ◌≤◌, min}
 use native.Mathlib.Omega.{arith}
 use lib.Dec.{eqb}
 use lib.ListN.{get_or, set, length-set, replicate, length-replicate}
 use lib.Seq.{get_or-set_same, get_or-set_other}
-use borrow.Author.Tests.{lt-ltb, le-ltb, le-leb, lt-leb, eq-eqb, ne_eqb}
 use Rattle.ancestors.specs.Ancestors.{own}
 use Rattle.ancestors.proofs.Laws.{has_empty}
-use Rattle.network.specs.Faults.{size_fault, pair_fault_of}
-use Rattle.network.specs.Network.{root, empty, fresh_net, fresh_number, fresh_of}
+use Rattle.network.specs.Faults.{pair_fault_of}
+use Rattle.network.specs.Network.{root, empty, fresh_net}
 use Rattle.memory.specs.Layout.{word_count, present, row_of, node_row, net_of, frame_in, look, view, arc_bits, row_lists}
 use Rattle.memory.specs.Inner.{Blank}
-use Rattle.memory.specs.Answers.{Starts}
 use Rattle.network.proofs.Effects.{same_net}
 use Rattle.memory.proofs.Store.{word_zero, at_none}
-use Rattle.memory.proofs.Laws.{starts_refused, starts_accepted}
 
 zero_at : (n k : ℕ) → get_or {A = ℕ} (replicate n 0) k 0 ≡ 0
 zero_at zero k = refl
@@ -57,26 +53,3 @@ module _ (xs : List ℕ) (blank : Blank xs) (n o : ℕ) (few : n ≤ 32) where
       (λ s r. at_none (min n 32) (look ys) s r _ 0 (no_arc (min n 32) s r))
       (λ y. ap (λ w. cond (eqb y o) (root (own o)) w) (rw (word_zero (min n 32) (look ys) row_lists y (λ k h. rest k (omega arith)))))
       (λ s r. at_none (min n 32) (look ys) s r _ empty (no_arc (min n 32) s r))
-
--- ---- the fresh call
-module _ (n o : ℕ) (xs : List ℕ) where
-  module _ (v : view xs ≡ fresh_net 1 0) where
-    fresh_refused : size_fault n o ≡ true → Starts (fresh_of n o) 3 xs
-    unfolding fresh_of fresh_number
-    fresh_refused e = starts_refused 3 _ _ _ xs (rw e) (λ z. omega arith) v
-
-    pub fresh_no_node : n ≡ 0 → Starts (fresh_of n o) 3 xs
-    unfolding size_fault
-    fresh_no_node e = fresh_refused (rw (eq-eqb n 0 e))
-
-    pub fresh_many : n ≢ 0 → 32 < n → Starts (fresh_of n o) 3 xs
-    unfolding size_fault
-    fresh_many d e = fresh_refused (rw (ne_eqb n 0 d, lt-ltb 32 n e))
-
-    pub fresh_no_origin : n ≢ 0 → n ≤ 32 → n ≤ o → Starts (fresh_of n o) 3 xs
-    unfolding size_fault
-    fresh_no_origin d e f = fresh_refused (rw (ne_eqb n 0 d, le-ltb 32 n e, le-leb n o f))
-
-  pub fresh_made : n ≢ 0 → n ≤ 32 → o < n → view xs ≡ fresh_net n o → Starts (fresh_of n o) 0 xs
-  unfolding fresh_of fresh_number size_fault
-  fresh_made d e f v = starts_accepted _ _ _ xs (rw (ne_eqb n 0 d, le-ltb 32 n e, lt-leb n o f)) v

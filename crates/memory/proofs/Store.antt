@@ -535,7 +535,3 @@ pub pair_found : (xs : List ℕ) (n s r : ℕ) → n ≡ (view xs).nodes → pai
 pair_found xs n s r is e =
     let k = pair_says n s r e in
     record { free = ap (λ m. pair_fault_of m s r) (sym is) ∙ e; sender = omega (arith, few xs); receiver = omega (arith, few xs) }
-
--- a pair's test on the number of nodes read is the test on the network's
-pub pair_tested : (xs : List ℕ) (n s r : ℕ) (b t : Bool) → n ≡ (view xs).nodes → b ≡ pair_fault_of n s r → b ≡ t → pair_fault_of (view xs).nodes s r ≡ t
-pair_tested xs n s r b t q e f = ap (λ k. pair_fault_of k s r) (sym q) ∙ sym e ∙ f

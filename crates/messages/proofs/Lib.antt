@@ -1,3 +1,3 @@
 -- Laws of the calls on messages. The first line of each file says what it has.
-pub mod Rows
-pub mod Storing
+pub mod Writing
+pub mod Reading

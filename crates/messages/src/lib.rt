@@ -4,258 +4,147 @@
 // A refused call writes nothing. No public function has a precondition.
 #![tactic(auto)]
 
-ghost use Rattle.std.specs.Prelude.{◌≡◌, [], ◌+◌, ◌*◌, ◌<◌, ◌≤◌, length};
+ghost use Rattle.std.specs.Prelude.{◌≡◌, cond, IfOk, OnOk, ◌++◌, ◌+◌, ◌*◌, ◌<◌, ◌≤◌, length};
 ghost use Rattle.network.specs.Faults.{max_nodes};
+ghost use Rattle.network.specs.Answered.{answered};
 ghost use Rattle.network.specs.Writing.{Writes};
 ghost use Rattle.memory.specs.Layout.{view};
-ghost use Rattle.filling.specs.Filling.{Wrote, Added};
-ghost use Rattle.response.specs.Messages.{address, entry_length, header_length, entries, message, first_node, entry_count_of, message_count_of, messages, messages_length_of, write_of};
-ghost use Rattle.response.specs.Reading.{read_of, Reads};
-ghost use Rattle.messages.specs.Inner.{Sound, list_metric_of, RowMetrics, by, EntriesRead, MessageRead, BufferRead};
+ghost use Rattle.arrayvec.specs.ArrayVec.{array_vec_len};
+ghost use Rattle.filling.specs.Filling.{Wrote};
+ghost use Rattle.response.specs.Messages.{address, entry_length, header_length, message, first_node, entry_count_of, message_count_of, given_then, write_of};
+ghost use Rattle.response.specs.Reading.{message_fault, message_metrics, read_of};
+ghost use Rattle.messages.specs.Inner.{Sound, row_metric_of};
 
 use memory::Network;
-use network::Written;
-use response::MetricsRead;
+use network::Fault;
+use response::Metrics;
 
 // Command 2, version 2 and two bytes of 0 as one number.
 const HEADER_WORD: u32 = 0x0202_0000;
 
-// The address of a node.
-fn node_address(base: u32, node: u32) -> u32
-    requires sound { Sound base }
-    requires node_lt_max_nodes { node < max_nodes }
-    ensures { result ≡ address base node }
-{
-    base + node + 1
+// A base whose last byte is 0, and a number of nodes.
+#[derive(Clone, Copy)]
+struct Given {
+    base: u32,
+    nodes: u32,
+    ghost sound: { Sound base },
+    ghost few: { nodes ≤ max_nodes },
+}
+
+impl Given {
+    // Refused as Base, then as Range.
+    fn check(base: u32, nodes: u32) -> Result<Self, Fault>
+        ensures number { answered result ≡ given_then base nodes 0 }
+        ensures given { IfOk result (λ g. (g.base ≡ base) × (g.nodes ≡ nodes)) }
+    {
+        response::check_given(base, nodes)?;
+        Ok(Given { base, nodes })
+    }
+
+    // The address of a node.
+    #[tactic(auto, unfolding(response::specs::Messages::address))]
+    fn address(self, node: u32) -> u32
+        requires { node < max_nodes }
+        ensures { result ≡ address self.base node }
+    {
+        self.base + node + 1
+    }
 }
 
 // ---- writing
 
-// The metric of a row with this list; 0 is no route.
-fn list_metric(list: u32) -> u8
-    ensures { result ≡ list_metric_of list }
+// The metric of a node's row.
+fn row_metric(net: &Network, node: u32) -> u8
+    requires { node < (view net.now).nodes }
+    ensures { result ≡ row_metric_of (view net.now) node }
 {
+    if node == memory::origin(net) {
+        return response::hops_metric(0);
+    }
+    let list = memory::list_word(net, node);
     if list == 0 {
         return response::INFINITY;
     }
     response::hops_metric(ancestors::count_hops(list))
 }
 
-// The metrics of n rows, in their places: of relays by their lists, and then the origin's.
-fn row_metrics(net: &Network, n: u32) -> [u8; response::NODES]
-    requires { n ≡ (view net.now).nodes }
-    ensures { RowMetrics (view net.now) result }
+// Message k, at the front of the output.
+#[tactic(auto, unfolding(response::specs::Messages::message_count_of, response::specs::Messages::entry_count_of))]
+fn put_message(net: &Network, given: Given, k: u32, out: &mut [u8]) -> usize
+    requires nodes { given.nodes ≡ (view net.now).nodes }
+    requires k_bound { k < message_count_of given.nodes }
+    requires room { header_length + entry_count_of given.nodes k * entry_length ≤ length out.old }
+    ensures { Wrote (message given.base (row_metric_of (view net.now)) (first_node k) (entry_count_of given.nodes k)) out.old out.new result }
 {
-    let mut metrics = [0u8; response::NODES];
-    let mut y: u32 = 0;
-    while y < n {
-        metrics[y as usize] = list_metric(memory::list_word(net, y));
-        y = y + 1;
-    }
-    let origin = memory::origin(net);
-    if origin < n {
-        metrics[origin as usize] = response::hops_metric(0);
-    }
-    metrics
-}
-
-// The entries of the nodes from `first` on, from a place of the output on; answers the place after them.
-fn put_entries(
-    metrics: &[u8; response::NODES],
-    base: u32,
-    first: u32,
-    count: u32,
-    out: &mut [u8],
-    start: usize,
-) -> usize
-    requires sound { Sound base }
-    requires count_bound { first + count ≤ max_nodes }
-    requires room { start + count * entry_length ≤ length out.old }
-    ensures { Added (entries base (by metrics.now) first count) out.old out.new start result }
-{
-    let mut at = start;
-    let mut i: u32 = 0;
-    while i < count {
+    let first = k * response::MOST_ENTRIES;
+    let mut at = filling::copy(&[2, 2, 0, 0], &mut out[..response::HEADER_LENGTH]);
+    for i in 0..response::entry_count(given.nodes, k) {
         let node = first + i;
-        at = at
-            + response::put_entry(
-                node_address(base, node),
-                metrics[node as usize],
-                &mut out[at..at + response::ENTRY_LENGTH],
-            );
-        i = i + 1;
-    }
-    at
-}
-
-// Message k of n nodes.
-fn put_message(
-    metrics: &[u8; response::NODES],
-    base: u32,
-    n: u32,
-    k: u32,
-    out: &mut [u8],
-    start: usize,
-) -> usize
-    requires sound { Sound base }
-    requires n_le_max_nodes { n ≤ max_nodes }
-    requires k_bound { k < message_count_of n }
-    requires room { start + (header_length + entry_count_of n k * entry_length) ≤ length out.old }
-    ensures { Added (message base (by metrics.now) (first_node k) (entry_count_of n k)) out.old out.new start result }
-{
-    let at = start
-        + filling::copy(
-            &[2, 2, 0, 0],
-            &mut out[start..start + response::HEADER_LENGTH],
+        at += response::put_entry(
+            given.address(node),
+            row_metric(net, node),
+            &mut out[at..at + response::ENTRY_LENGTH],
         );
-    put_entries(
-        metrics,
-        base,
-        k * response::MOST_ENTRIES,
-        response::entry_count(n, k),
-        out,
-        at,
-    )
-}
-
-// All messages, where there is room for them.
-fn put_messages(metrics: &[u8; response::NODES], base: u32, n: u32, out: &mut [u8]) -> usize
-    requires sound { Sound base }
-    requires n_le_max_nodes { n ≤ max_nodes }
-    requires room { messages_length_of n ≤ length out.old }
-    ensures { Wrote (messages base (by metrics.now) n) out.old out.new result }
-{
-    let count = response::message_count(n);
-    let mut at: usize = 0;
-    let mut k: u32 = 0;
-    while k < count {
-        at = put_message(metrics, base, n, k, out, at);
-        k = k + 1;
     }
     at
 }
 
-// Writes a network's rows as messages. The number is 0; or 13 for a base whose last byte isn't 0, 3 for n, 6 for an output shorter than the
-// messages, and then nothing is written.
-pub fn write_messages(net: &Network, base: u32, out: &mut [u8]) -> Written
+// Writes a network's rows as messages, and answers how many bytes they are. Refused as Base for a base whose last byte isn't 0, as Range for n, and
+// as Room for an output shorter than the messages; then nothing is written.
+#[tactic(auto, unfolding(response::specs::Messages::message_count_of, response::specs::Messages::entry_count_of, response::specs::Messages::messages_length_of))]
+pub fn write_messages(net: &Network, base: u32, out: &mut [u8]) -> Result<usize, Fault>
     ensures { Writes (write_of base (view net.now) out.old) result out.new }
 {
-    let n = memory::nodes(net);
-    let given = response::given_number(base, n);
-    if given != 0 {
-        return Written {
-            number: given,
-            used: 0,
-        };
+    let given = Given::check(base, memory::nodes(net))?;
+    if out.len() < response::messages_length(given.nodes) {
+        return Err(Fault::Room);
     }
-    if out.len() < response::messages_length(n) {
-        return Written { number: 6, used: 0 };
+    let mut at = 0;
+    for k in 0..response::message_count(given.nodes) {
+        at += put_message(net, given, k, &mut out[at..]);
     }
-    let metrics = row_metrics(net, n);
-    Written {
-        number: 0,
-        used: put_messages(&metrics, base, n, out),
-    }
+    Ok(at)
 }
 
 // ---- reading
 
-// The metrics of a message's entries, of the nodes from `first` on, into their places; false where a field of an entry is wrong.
-fn read_entries(part: &[u8], base: u32, first: u32, count: u32, metrics: &mut [u8]) -> bool
-    requires sound { Sound base }
-    requires count_bound { first + count ≤ max_nodes }
-    requires long_enough { header_length + count * entry_length ≤ length part.now }
-    requires metrics_len { length metrics.old ≡ max_nodes }
-    ensures { EntriesRead base first count part.now metrics.old metrics.new result }
-{
-    let mut i: u32 = 0;
-    while i < count {
-        let node = first + i;
-        let at = response::HEADER_LENGTH + i as usize * response::ENTRY_LENGTH;
-        let m = response::read_entry(
-            &part[at..at + response::ENTRY_LENGTH],
-            node_address(base, node),
-        );
-        if m == 0 {
-            return false;
-        }
-        metrics[node as usize] = (m % 256) as u8;
-        i = i + 1;
-    }
-    true
-}
-
-// A message's metrics; false where a field is wrong.
-fn read_message(part: &[u8], base: u32, first: u32, count: u32, metrics: &mut [u8]) -> bool
-    requires sound { Sound base }
-    requires count_bound { first + count ≤ max_nodes }
-    requires long_enough { header_length + count * entry_length ≤ length part.now }
-    requires metrics_len { length metrics.old ≡ max_nodes }
-    ensures { MessageRead base first count part.now metrics.old metrics.new result }
+// The metrics of message k, at the front of a part, are added to those of the messages before it. Refused as Message where a field is wrong.
+#[tactic(auto, unfolding(response::specs::Messages::message_count_of, response::specs::Messages::entry_count_of))]
+fn read_message(part: &[u8], given: Given, k: u32, metrics: &mut Metrics) -> Result<(), Fault>
+    requires k_bound { k < message_count_of given.nodes }
+    requires long_enough { header_length + entry_count_of given.nodes k * entry_length ≤ length part.now }
+    requires before { array_vec_len metrics.old ≡ first_node k }
+    ensures number { answered result ≡ cond (message_fault given.base (first_node k) (entry_count_of given.nodes k) part.now) 14 0 }
+    ensures metrics { OnOk result (metrics.new.items ≡ metrics.old.items ++ message_metrics (entry_count_of given.nodes k) part.now) }
 {
     if reading::word(&part[..response::HEADER_LENGTH], 0) != HEADER_WORD {
-        return false;
+        return Err(Fault::Message);
     }
-    read_entries(part, base, first, count, metrics)
+    let first = k * response::MOST_ENTRIES;
+    for i in 0..response::entry_count(given.nodes, k) {
+        let at = response::HEADER_LENGTH + i as usize * response::ENTRY_LENGTH;
+        let entry = &part[at..at + response::ENTRY_LENGTH];
+        let metric = response::read_entry(entry, given.address(first + i)).ok_or(Fault::Message)?;
+        metrics.push(metric);
+    }
+    Ok(())
 }
 
-// The metrics of all messages; false where a field is wrong.
-fn read_buffer(bytes: &[u8], base: u32, n: u32, metrics: &mut [u8]) -> bool
-    requires sound { Sound base }
-    requires n_le_max_nodes { n ≤ max_nodes }
-    requires bytes_len { length bytes.now ≡ messages_length_of n }
-    requires metrics_len { length metrics.old ≡ max_nodes }
-    ensures { BufferRead base n bytes.now metrics.old metrics.new result }
+// Reads messages back, given base and n: the metrics of nodes 0 to n-1. Refused as Base for a base whose last byte isn't 0, as Range for n of 0 or
+// above 32, and as Message for a wrong length or field.
+#[tactic(auto, unfolding(response::specs::Messages::message_count_of, response::specs::Messages::entry_count_of, response::specs::Messages::messages_length_of))]
+pub fn read_messages(bytes: &[u8], base: u32, n: u32) -> Result<Metrics, Fault>
+    ensures number { answered result ≡ (read_of base n bytes.now).number }
+    ensures metrics { IfOk result (λ m. m.items ≡ (read_of base n bytes.now).metrics) }
 {
-    let count = response::message_count(n);
-    let mut k: u32 = 0;
-    while k < count {
+    let given = Given::check(base, n)?;
+    if bytes.len() != response::messages_length(given.nodes) {
+        return Err(Fault::Message);
+    }
+    let mut metrics = Metrics::new();
+    for k in 0..response::message_count(given.nodes) {
         let at = k as usize * response::FULL_LENGTH;
-        let right = read_message(
-            &bytes[at..],
-            base,
-            k * response::MOST_ENTRIES,
-            response::entry_count(n, k),
-            metrics,
-        );
-        if !right {
-            return false;
-        }
-        k = k + 1;
+        read_message(&bytes[at..], given, k, &mut metrics)?;
     }
-    true
-}
-
-fn refused(number: u8) -> MetricsRead
-    ensures { Reads (record { number = number; metrics = [] }) result }
-{
-    MetricsRead {
-        number,
-        nodes: 0,
-        metrics: [0u8; response::NODES],
-    }
-}
-
-// Reads messages back, given base and n: the metrics of nodes 0 to n-1. The number is 0; or 13 for a base whose last byte isn't 0, 3 for n of 0 or
-// above 32, 14 for a wrong length or field.
-pub fn read_messages(bytes: &[u8], base: u32, n: u32) -> MetricsRead
-    ensures { Reads (read_of base n bytes.now) result }
-{
-    let given = response::given_number(base, n);
-    if given != 0 {
-        return refused(given);
-    }
-    if bytes.len() != response::messages_length(n) {
-        return refused(14);
-    }
-    let mut metrics = [0u8; response::NODES];
-    let right = read_buffer(bytes, base, n, &mut metrics);
-    if !right {
-        return refused(14);
-    }
-    MetricsRead {
-        number: 0,
-        nodes: n,
-        metrics,
-    }
+    Ok(metrics)
 }

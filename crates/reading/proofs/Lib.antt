@@ -1,2 +1,1 @@
-mod PastEnd
-mod ByKind
+pub mod ByKind

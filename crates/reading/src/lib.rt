@@ -3,33 +3,28 @@
 // The crate `records` has document 01's definitions; the functions that others can reach have no precondition.
 #![tactic(auto)]
 
-ghost use Rattle.std.specs.Prelude.{◌≡◌, ◌+◌, ◌<◌, length, drop};
+ghost use Rattle.std.specs.Prelude.{◌≡◌, List, ℕ, ◌+◌, ◌<◌, length, drop};
+ghost use Rattle.std.specs.Fn.{FnOnceReturnsAt};
 ghost use Rattle.records.specs.Numbers.{num8, num16, num32};
-ghost use Rattle.records.specs.Records.{at_start, in_image, as_event, arc_change, grade_change, refused_record, bodied, record_of};
+ghost use Rattle.records.specs.Records.{at_start, in_image, as_event, body_length, arc_change, grade_change, event_of, refused_record, bodied, record_of};
+ghost use Rattle.records.specs.declared.Event.{Event};
 ghost use Rattle.records.specs.declared.Event.TheVariants.{Header, Change, Row, Report};
 
+use network::Fault;
 use records::{ArcChange, Event, Record};
 
-// ---- numbers; a byte past the end counts as 0
-
-// A byte as a number of 32 bits.
-fn wide(x: u8) -> u32
-    ensures { (result ≡ x) × (result < 256) }
-{
-    x as u32
-}
+// ---- numbers; a byte past the end counts as 0, so that no call fails
 
 // The number in the byte at i.
+#[tactic(auto, unfolding(records::specs::Numbers::num8))]
 fn get8(b: &[u8], i: usize) -> u32
     ensures { (result ≡ num8 b.now i) × (result < 256) }
 {
-    if b.len() <= i {
-        return 0;
-    }
-    wide(b[i])
+    b.get(i).map_or(0, |x| u32::from(*x))
 }
 
 // The number in the two bytes from i on.
+#[tactic(auto, unfolding(records::specs::Numbers::num16, records::specs::Numbers::num8))]
 fn get16(b: &[u8], i: usize) -> u32
     ensures { (result ≡ num16 b.now i) × (result < 65536) }
 {
@@ -42,6 +37,7 @@ fn get16(b: &[u8], i: usize) -> u32
 }
 
 // The number in the four bytes from i on.
+#[tactic(auto, unfolding(records::specs::Numbers::num32, records::specs::Numbers::num16, records::specs::Numbers::num8))]
 pub fn word(b: &[u8], i: usize) -> u32
     ensures { result ≡ num32 b.now i }
 {
@@ -56,6 +52,7 @@ pub fn word(b: &[u8], i: usize) -> u32
 // ---- bodies
 
 // A change to a cost; cost 0 removes.
+#[tactic(auto, unfolding(records::specs::Records::arc_change))]
 fn change_to(sender: u32, receiver: u32, cost: u32) -> ArcChange
     ensures { result ≡ arc_change sender receiver cost }
 {
@@ -112,13 +109,14 @@ fn report_body(b: &[u8]) -> Event
 }
 
 // The body of kind 7: sender, receiver, grade. A grade above 15 is refused at the record's place.
+#[tactic(auto, unfolding(records::specs::Records::grade_change, network::specs::Faults::grade_fault))]
 fn grade_body(b: &[u8], at: usize) -> Event
     ensures { result ≡ grade_change at (num8 b.now 0) (num8 b.now 1) (num8 b.now 2) }
 {
     let grade = get8(b, 2);
     if network::MAX_GRADE < grade {
         return Event::Refusal {
-            number: 3,
+            fault: Fault::Range,
             place: at,
         };
     }
@@ -126,131 +124,61 @@ fn grade_body(b: &[u8], at: usize) -> Event
     Event::Change(change)
 }
 
-// ---- records; a short body is refused as 1, and a whole one is handed on as the part that follows the kind byte
+// ---- records
 
 // A record refused before its body is read.
-fn refused(number: u8, at: usize) -> Record
-    ensures { result ≡ refused_record number at }
+fn refused(fault: Fault, at: usize) -> Record
+    ensures { result ≡ refused_record fault at }
 {
     Record {
-        event: Event::Refusal { number, place: at },
+        event: Event::Refusal { fault, place: at },
         used: 0,
     }
 }
 
-// A record of kind 1.
-fn header_record(input: &[u8], at: usize) -> Record
-    requires { at < length input.now }
-    ensures { result ≡ bodied at 1 (drop (at + 1) input.now) }
+// A record whose body has `size` bytes: a short body is refused as Cut, and a whole one is handed to `read` as the part that follows the kind byte.
+// Where `size` and `read` are those of a kind, the record is of that kind.
+#[tactic(auto, unfolding(records::specs::Records::bodied))]
+fn bodied<F: FnOnce(&[u8]) -> Event>(input: &[u8], at: usize, size: usize, read: F) -> Record
+    requires in_bounds { at < length input.now }
+    requires callable { F.IsAlwaysCallable read }
+    ensures { (k : ℕ) → size ≡ body_length k → ((b : List ℕ) (e : Event) → FnOnceReturnsAt F.FnOnce read b e → e ≡ event_of at k b)
+        → result ≡ bodied at k (drop (at + 1) input.now) }
 {
     let start = at + 1;
-    if input.len() - start < records::HEADER_BODY {
-        return refused(1, at);
+    if input.len() - start < size {
+        return refused(Fault::Cut, at);
     }
     Record {
-        event: header_body(&input[start..start + records::HEADER_BODY]),
-        used: 1 + records::HEADER_BODY,
+        event: read(&input[start..start + size]),
+        used: 1 + size,
     }
 }
 
-// A record of kind 2.
-fn arc_record(input: &[u8], at: usize) -> Record
-    requires { at < length input.now }
-    ensures { result ≡ bodied at 2 (drop (at + 1) input.now) }
-{
-    let start = at + 1;
-    if input.len() - start < records::ARC_BODY {
-        return refused(1, at);
-    }
-    Record {
-        event: arc_body(&input[start..start + records::ARC_BODY]),
-        used: 1 + records::ARC_BODY,
-    }
-}
-
-// A record of kind 3.
-fn row_record(input: &[u8], at: usize) -> Record
-    requires { at < length input.now }
-    ensures { result ≡ bodied at 3 (drop (at + 1) input.now) }
-{
-    let start = at + 1;
-    if input.len() - start < records::ROW_BODY {
-        return refused(1, at);
-    }
-    Record {
-        event: row_body(&input[start..start + records::ROW_BODY]),
-        used: 1 + records::ROW_BODY,
-    }
-}
-
-// A record of kind 4.
-fn report_record(input: &[u8], at: usize) -> Record
-    requires { at < length input.now }
-    ensures { result ≡ bodied at 4 (drop (at + 1) input.now) }
-{
-    let start = at + 1;
-    if input.len() - start < records::REPORT_BODY {
-        return refused(1, at);
-    }
-    Record {
-        event: report_body(&input[start..start + records::REPORT_BODY]),
-        used: 1 + records::REPORT_BODY,
-    }
-}
-
-// A record of kind 5.
-fn round_record(input: &[u8], at: usize) -> Record
-    requires { at < length input.now }
-    ensures { result ≡ bodied at 5 (drop (at + 1) input.now) }
-{
-    let start = at + 1;
-    if input.len() - start < records::ROUND_BODY {
-        return refused(1, at);
-    }
-    Record {
-        event: Event::Round,
-        used: 1 + records::ROUND_BODY,
-    }
-}
-
-// A record of kind 7.
-fn grade_record(input: &[u8], at: usize) -> Record
-    requires { at < length input.now }
-    ensures { result ≡ bodied at 7 (drop (at + 1) input.now) }
-{
-    let start = at + 1;
-    if input.len() - start < records::GRADE_BODY {
-        return refused(1, at);
-    }
-    Record {
-        event: grade_body(&input[start..start + records::GRADE_BODY], at),
-        used: 1 + records::GRADE_BODY,
-    }
-}
-
-// ---- sections: a missing kind byte is refused as 1, then a kind that is not allowed as 2
+// ---- sections: a missing kind byte is refused as Cut, then a kind that is not allowed as Kind
 
 // The first record: kind 1.
 pub fn start_record(input: &[u8]) -> Record
     ensures { result ≡ record_of at_start 0 input.now }
 {
-    if input.len() == 0 {
-        return refused(1, 0);
+    if input.is_empty() {
+        return refused(Fault::Cut, 0);
     }
     let kind = input[0];
     match kind {
-        1 => header_record(input, 0),
-        0 | 2 | 3 | 4 | 5 | 6 | 7 => refused(2, 0),
-        _ => refused(2, 0),
+        1 => bodied(input, 0, records::HEADER_BODY, header_body),
+        0 | 2 | 3 | 4 | 5 | 6 | 7 => refused(Fault::Kind, 0),
+        _ => refused(Fault::Kind, 0),
     }
 }
 
 // The record at the place `at` inside an image: kinds 0 and 2 to 4.
+#[tactic(auto, using(crate::proofs::ByKind::missing, crate::proofs::ByKind::by_kind), unfolding(records::specs::Records::allowed))]
 pub fn image_record(input: &[u8], at: usize) -> Record
     ensures { result ≡ record_of in_image at (drop at input.now) }
 {
     if input.len() <= at {
-        return refused(1, at);
+        return refused(Fault::Cut, at);
     }
     let kind = input[at];
     match kind {
@@ -258,31 +186,32 @@ pub fn image_record(input: &[u8], at: usize) -> Record
             event: Event::End,
             used: 1,
         },
-        2 => arc_record(input, at),
-        3 => row_record(input, at),
-        4 => report_record(input, at),
-        1 | 5 | 6 | 7 => refused(2, at),
-        _ => refused(2, at),
+        2 => bodied(input, at, records::ARC_BODY, arc_body),
+        3 => bodied(input, at, records::ROW_BODY, row_body),
+        4 => bodied(input, at, records::REPORT_BODY, report_body),
+        1 | 5 | 6 | 7 => refused(Fault::Kind, at),
+        _ => refused(Fault::Kind, at),
     }
 }
 
 // The record at the place `at` after an image: kinds 2 and 5 to 7.
+#[tactic(auto, using(crate::proofs::ByKind::missing, crate::proofs::ByKind::by_kind), unfolding(records::specs::Records::allowed))]
 pub fn event_record(input: &[u8], at: usize) -> Record
     ensures { result ≡ record_of as_event at (drop at input.now) }
 {
     if input.len() <= at {
-        return refused(1, at);
+        return refused(Fault::Cut, at);
     }
     let kind = input[at];
     match kind {
-        2 => arc_record(input, at),
-        5 => round_record(input, at),
+        2 => bodied(input, at, records::ARC_BODY, arc_body),
+        5 => bodied(input, at, records::ROUND_BODY, |_| Event::Round),
         6 => Record {
             event: Event::FullRound,
             used: 1,
         },
-        7 => grade_record(input, at),
-        0 | 1 | 3 | 4 => refused(2, at),
-        _ => refused(2, at),
+        7 => bodied(input, at, records::GRADE_BODY, |b| grade_body(b, at)),
+        0 | 1 | 3 | 4 => refused(Fault::Kind, at),
+        _ => refused(Fault::Kind, at),
     }
 }

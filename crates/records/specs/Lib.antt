@@ -1,5 +1,6 @@
 pub mod Numbers
 pub mod Records
+pub mod Stopped
 pub mod Image
 pub mod Opening
 pub mod Refusals

@@ -4,21 +4,24 @@ use mathlib.Core.Path.{◌≡◌, refl, sym, ap, ◌∙◌}
 use mathlib.Core.Bool.{Bool, true, false, cond, or-true}
 use mathlib.Core.List.{List, [], ◌++◌}
 use mathlib.Core.Logic.{◌⊎◌, inl, inr, ◌≢◌}
-use Prim.Native.Nat.{ℕ, ◌+◌, ◌-◌, ◌%◌, ◌<◌, ◌≤◌}
-use native.Mathlib.Nat.{zero-add}
+use Prim.Native.Nat.{ℕ, ◌%◌, ◌<◌, ◌≤◌}
 use native.Mathlib.Omega.{arith}
 use lib.Dec.{eqb, ltb}
-use lib.ListN.{length, drop, replicate, length-replicate, replicate-append-replicate}
-use lib.Seq.{drop_at}
+use lib.ListN.{length, drop}
+use Rattle.std.specs.Prelude.{Ok, Err}
 use borrow.Author.Tests.{eq-eqb, eqb-true, ne_eqb, eqb-false, lt-ltb, le-ltb, ltb-false, not-false}
 use Rattle.ancestors.proofs.Cases.{eq_or_ne, or_neither}
 use Rattle.network.specs.Faults.{max_nodes}
 use Rattle.network.specs.Network.{Net}
 use Rattle.network.specs.Writing.{writing, Writes}
+use Rattle.network.specs.Answered.{fault_number}
+use Rattle.network.specs.declared.Fault.{Fault}
+use Rattle.network.specs.declared.Fault.TheVariants as F
+use Rattle.network.proofs.Answered.{fault_some}
 use Rattle.network.proofs.Effects.{writing_refused, writing_accepted}
-use Rattle.filling.specs.Filling.{Wrote, Added}
+use Rattle.filling.specs.Filling.{Wrote}
 use Rattle.response.specs.Messages.{metric, messages, messages_length_of, base_fault, count_fault, given_then, row_messages, write_number, write_of}
-use Rattle.response.specs.Reading.{buffer_fault, buffer_metrics, Reading, read_number, reading, read_of, places}
+use Rattle.response.specs.Reading.{buffer_fault, buffer_metrics, Reading, read_number, reading, read_of}
 use Rattle.response.proofs.Sizes.{messages_size, messages_same}
 
 -- ---- what is given
@@ -89,6 +92,9 @@ module _ (base n : ℕ) where
   unfolding given_then
   given_says k e = chosen (base_fault base) (count_fault n) k e
 
+  pub given_sound : given_then base n 0 ≡ 0 → (base % 256 ≡ 0) × (n ≤ max_nodes)
+  given_sound e = let g = given_says 0 e in (base_says base g.0, (count_says n g.1).1)
+
   -- where one of them applies nothing else decides
   pub given_first : (k : ℕ) → given_then base n 0 ≢ 0 → given_then base n k ≡ given_then base n 0
   unfolding given_then
@@ -118,10 +124,13 @@ module _ (base : ℕ) (x : Net) (out : List ℕ) where
   unfolding write_number
   number_given h = given_first base x.nodes (cond (ltb (length out) (length (row_messages base x))) 6 0) h
 
-  pub write_given : (k : ℕ) → k ≡ given_then base x.nodes 0 → k ≢ 0 → Writes (write_of base x out) (record { number = k; used = 0 }) out
+  refused_with : (f : Fault) → write_number base x (length out) ≡ fault_number f → Writes (write_of base x out) (Err f) out
   unfolding write_of
-  write_given k e h =
-      rw (number_given (λ z. h (e ∙ z)), ← e, writing_refused k (row_messages base x) out h) (record { number = refl; used = refl; output = refl })
+  refused_with f e =
+      rw (e, writing_refused (fault_number f) (row_messages base x) out (fault_some f)) (record { number = refl; used = refl; output = refl })
+
+  pub write_given : (f : Fault) → fault_number f ≡ given_then base x.nodes 0 → Writes (write_of base x out) (Err f) out
+  write_given f e = refused_with f (number_given (λ z. fault_some f (e ∙ z)) ∙ sym e)
 
   -- where 0 is answered neither applies
   pub write_says : write_number base x (length out) ≡ 0 → (base_fault base ≡ false) × (count_fault x.nodes ≡ false)
@@ -134,12 +143,10 @@ module _ (base : ℕ) (x : Net) (out : List ℕ) where
     number_is k e = given_last base x.nodes _ given ∙ e
 
     -- 6
-    pub write_short : length out < messages_length_of x.nodes → Writes (write_of base x out) (record { number = 6; used = 0 }) out
-    unfolding write_of
+    pub write_short : length out < messages_length_of x.nodes → Writes (write_of base x out) (Err F.Room) out
     write_short h =
         let l : length out < length (row_messages base x) = omega (arith, rows_size) in
-        rw (number_is 6 (rw (lt-ltb (length out) (length (row_messages base x)) l)), writing_refused 6 (row_messages base x) out (λ z. omega arith))
-        (record { number = refl; used = refl; output = refl })
+        refused_with F.Room (number_is 6 (rw (lt-ltb (length out) (length (row_messages base x)) l)))
 
     pub number_fits : messages_length_of x.nodes ≤ length out → write_number base x (length out) ≡ 0
     number_fits h =
@@ -148,7 +155,7 @@ module _ (base : ℕ) (x : Net) (out : List ℕ) where
 
     -- accepted
     pub write_fits : {r : ℕ} {exit : List ℕ} → messages_length_of x.nodes ≤ length out → Wrote (row_messages base x) out exit r
-        → Writes (write_of base x out) (record { number = 0; used = r }) exit
+        → Writes (write_of base x out) (Ok r) exit
     unfolding write_of
     write_fits h w =
         rw (number_fits h, writing_accepted (row_messages base x) out)
@@ -196,16 +203,3 @@ module _ (base n : ℕ) (b : List ℕ) where
   pub wrong_length : length b ≢ messages_length_of n → buffer_fault base n b ≡ true
   unfolding buffer_fault
   wrong_length h = rw (ne_eqb (length b) (messages_length_of n) h)
-
--- n metrics stored in the first of 32 places
-zeros_left : (n : ℕ) → n ≤ max_nodes → drop {A = ℕ} n (replicate max_nodes 0) ≡ replicate (max_nodes - n) 0
-zeros_left n h =
-    let e : n + (max_nodes - n) ≡ max_nodes = omega arith in
-    ap {A = List ℕ} (drop n) (sym (replicate-append-replicate n (max_nodes - n) 0 ∙ ap {B = List ℕ} (λ (k : ℕ). replicate k 0) e)) ∙
-    drop_at {A = ℕ} (replicate n 0) (replicate (max_nodes - n) 0) n (length-replicate {A = ℕ} n 0)
-
-pub stored_places : (n : ℕ) {ms x : List ℕ} → n ≤ max_nodes → Added ms (replicate max_nodes 0) x 0 n → (n ≡ length ms) × (x ≡ places ms)
-unfolding places
-stored_places n {ms} {x} h a =
-    let e : n ≡ length ms = a.place ∙ zero-add (length ms) in
-    (e, a.left ∙ rw (zeros_left n h, e))

@@ -1,24 +1,24 @@
 -- The fields of an entry and of a header, as bytes and back, and metrics within their limits.
 -- Assumes nothing.
 use mathlib.Core.Path.{◌≡◌, refl, sym, ap, ◌∙◌}
-use mathlib.Core.Bool.{true, false, cond, ◌||◌}
+use mathlib.Core.Bool.{true, false, cond}
 use mathlib.Core.List.{List, [], ◌∷◌, ◌++◌}
-use mathlib.Core.Logic.{◌⊎◌, inl, inr, ◌≢◌}
-use Prim.Native.Nat.{ℕ, suc, ◌+◌, ◌*◌, ◌/◌, ◌%◌, ◌^◌, ◌<◌, ◌≤◌}
+use mathlib.Core.Logic.{◌⊎◌, inl, inr}
+use Prim.Native.Nat.{ℕ, suc, ◌+◌, ◌*◌, ◌/◌, ◌^◌, ◌<◌, ◌≤◌}
 use native.Mathlib.Numerals.{add-one}
 use native.Mathlib.Omega.{arith}
 use lib.Dec.{eqb, ltb}
 use lib.ListN.{length, take, drop, get_or}
-use lib.Seq.{drop-cons, sets}
-use borrow.Author.Tests.{eq-eqb, eqb-true, eqb-false, ne_eqb, lt-ltb, le-ltb, ltb-false, not-false}
+use lib.Seq.{drop-cons, drop-drop}
+use borrow.Rule.Slice.PartMut.{put_mid}
+use Rattle.std.specs.Int.{to_be_bytes, w32}
+use borrow.Author.Tests.{eqb-true, eqb-false, ne_eqb, lt-ltb, le-ltb, ltb-false, not-false}
 use Rattle.ancestors.specs.Ancestors.{hops}
-use Rattle.ancestors.proofs.Cases.{bool_cases, le_or_lt, eq_or_ne, eqb_same, or_neither}
+use Rattle.ancestors.proofs.Cases.{bool_cases, le_or_lt, eqb_same, or_neither}
 use Rattle.network.specs.Network.{Row, none, root, via}
 use Rattle.records.specs.Numbers.{Bytes, be8, be16, be32, num8, num16, num32}
 use Rattle.records.proofs.NumberLaws.{be16_of, be32_of, num32_of}
 use Rattle.filling.specs.Filling.{Wrote, copied}
-use Rattle.filling.proofs.Fronts.{Front, none as front-none, more}
-use Rattle.filling.proofs.Fronts.{front as front_of}
 use Rattle.filling.proofs.Parts.{wrote_none, wrote_as}
 use Rattle.filling.proofs.Copying.{copied_none, copied_all}
 use Rattle.response.specs.Messages.{infinity, hops_metric_of, metric, mask, entry, entry_length, header, header_length}
@@ -54,10 +54,6 @@ metric_right (root l) = hops_right (hops l)
 metric_right (via d p l) = hops_right (hops l)
 
 -- ---- numbers in their places
-
--- two numbers of four bytes as one of eight say both
-pub double_says : (h l j k : ℕ) → l < 2 ^ 32 → k < 2 ^ 32 → h * 4294967296 + l ≡ j * 4294967296 + k → (h ≡ j) × (l ≡ k)
-double_says h l j k p q e = (omega arith, omega arith)
 
 same : (v w : ℕ) → differs v w ≡ false → v ≡ w
 same v w e = eqb-true v w (not-false _ e)
@@ -112,31 +108,35 @@ module _ (a : ℕ) (b : List ℕ) where
   unfolding entry_fault entry_metric
   entry_by f = rw (f.family, f.tag, f.address, f.mask, f.next_hop, eqb_same a)
 
-  -- address family and tag as one number of four bytes
-  pub family_tag : Bytes b → num32 b 0 ≡ 131072 → (num16 b 0 ≡ 2) × (num16 b 2 ≡ 0)
+  -- its first sixteen bytes as two numbers of eight
+  pub fields_by : Bytes b → a < 2 ^ 32 → num32 b 0 * 4294967296 + num32 b 4 ≡ 131072 * 4294967296 + a → num32 b 8 * 4294967296 + num32 b 12 ≡ mask * 4294967296
+      → Fields
   unfolding num32
-  family_tag bytes e = (omega (arith, low b bytes 2), omega (arith, low b bytes 2))
+  fields_by bytes word p q =
+      let l = low b bytes in
+      record {
+        family = omega (arith, l 2, l 4, l 6);
+        tag = omega (arith, l 2, l 4, l 6);
+        address = omega (arith, l 4, l 6);
+        mask = omega (arith, l 12, l 14);
+        next_hop = omega (arith, l 12, l 14);
+      }
 
   pub family_same : Fields → num32 b 0 ≡ 131072
   unfolding num32
   family_same f = omega (arith, f.family, f.tag)
 
-  -- what the reader of an entry answers: 0 for a wrong field
-  pub entry_wrong : (v : ℕ) → (Fields → metric_fault (entry_metric b) ≡ false → ⊥) → 0 ≡ cond (entry_fault a b) 0 v
-  entry_wrong v h = go (bool_cases (entry_fault a b))
-    where
-      go : (entry_fault a b ≡ true) ⊎ (entry_fault a b ≡ false) → 0 ≡ cond (entry_fault a b) 0 v
-      go (inl e) = rw e
-      go (inr e) = let s = entry_says e in absurd (h s.0 s.1)
+  -- what the reader of an entry answers
+  module _ {A : Type 0} (none some : A) where
+    pub entry_wrong : (Fields → metric_fault (entry_metric b) ≡ false → ⊥) → none ≡ cond (entry_fault a b) none some
+    entry_wrong h = go (bool_cases (entry_fault a b))
+      where
+        go : (entry_fault a b ≡ true) ⊎ (entry_fault a b ≡ false) → none ≡ cond (entry_fault a b) none some
+        go (inl e) = rw e
+        go (inr e) = let s = entry_says e in absurd (h s.0 s.1)
 
-  -- and else the metric, which is 0 where it is too small
-  pub entry_answer : Fields → entry_metric b ≤ infinity → entry_metric b ≡ cond (entry_fault a b) 0 (entry_metric b)
-  unfolding metric_fault
-  entry_answer f h = rw (entry_by f, le-ltb infinity (entry_metric b) h) (go (eq_or_ne (entry_metric b) 0))
-    where
-      go : (entry_metric b ≡ 0) ⊎ (entry_metric b ≢ 0) → entry_metric b ≡ cond (eqb (entry_metric b) 0 || false) 0 (entry_metric b)
-      go (inl e) = rw (eq-eqb (entry_metric b) 0 e) e
-      go (inr e) = rw (ne_eqb (entry_metric b) 0 e)
+    pub entry_right : Fields → 1 ≤ entry_metric b → entry_metric b ≤ infinity → some ≡ cond (entry_fault a b) none some
+    entry_right f p q = rw (entry_by f, metric_free (entry_metric b) p q)
 
   -- the bytes of such an entry
   pub entry_back : Bytes b → entry_length ≤ length b → Fields → take entry_length b ≡ entry a (entry_metric b)
@@ -161,33 +161,30 @@ small32 m h =
     let e : m ≡ (0 * 256 + 0) * 65536 + (0 * 256 + m) = omega arith in
     ap be32 e ∙ be32_of 0 0 0 m (omega arith) (omega arith) (omega arith) h
 
-abbrev pub entry_front : ℕ → List ℕ → List ℕ
-entry_front a t =
-    0 ∷ 2 ∷ 0 ∷ 0 ∷ a / 65536 / 256 % 256 ∷ a / 65536 % 256 ∷ a / 256 % 256 ∷ a % 256 ∷ 255 ∷ 255 ∷ 255 ∷ 255 ∷ 0 ∷ 0 ∷ 0 ∷ 0 ∷ t
+abbrev entry_front : ℕ → List ℕ → List ℕ
+entry_front a t = 0 ∷ 2 ∷ 0 ∷ 0 ∷ (to_be_bytes w32 a ++ (255 ∷ 255 ∷ 255 ∷ 255 ∷ 0 ∷ 0 ∷ 0 ∷ 0 ∷ t))
 
 front : (a : ℕ) (t : List ℕ) → be16 2 ++ (be16 0 ++ (be32 a ++ (be32 mask ++ (be32 0 ++ t)))) ≡ entry_front a t
 unfolding be32 be16 be8
-front a t = refl
+front a t =
+    let p : a / 65536 / 256 ≡ a / 16777216 = omega arith in
+    rw p
 
-pub entry_bytes : (a m : ℕ) → m < 256 → entry a m ≡ entry_front a (0 ∷ 0 ∷ 0 ∷ m ∷ [])
+entry_bytes : (a m : ℕ) → m < 256 → entry a m ≡ entry_front a (0 ∷ 0 ∷ 0 ∷ m ∷ [])
 unfolding entry
 entry_bytes a m h = front a (be32 m) ∙ ap (entry_front a) (small32 m h)
 
--- an entry stored byte by byte at the front of a part, its address first
-abbrev pub entry_stored : List ℕ → ℕ → ℕ → List ℕ
-entry_stored e a m =
-    let i = sets e 4 (a / 65536 / 256 % 256 ∷ a / 65536 % 256 ∷ a / 256 % 256 ∷ a % 256 ∷ []) in
-    sets (sets i 0 (0 ∷ 2 ∷ 0 ∷ 0 ∷ [])) 8 (255 ∷ 255 ∷ 255 ∷ 255 ∷ 0 ∷ 0 ∷ 0 ∷ 0 ∷ 0 ∷ 0 ∷ 0 ∷ m ∷ [])
+-- an entry stored at the front of an output: four bytes, the address, and the rest
+module _ (a m : ℕ) (e : List ℕ) where
+  pub entry_stored : {x y z : List ℕ} → x ≡ 0 ∷ 2 ∷ 0 ∷ 0 ∷ [] → y ≡ to_be_bytes w32 a → z ≡ 255 ∷ 255 ∷ 255 ∷ 255 ∷ 0 ∷ 0 ∷ 0 ∷ 0 ∷ 0 ∷ 0 ∷ 0 ∷ m ∷ []
+      → m < 256 → entry_length ≤ length e → Wrote (copied (entry a m) e) e (put_mid 8 12 (put_mid 4 4 (x ++ drop 4 e) y) z) entry_length
+  entry_stored p q r h room =
+      let d : drop 12 (drop 4 (drop 4 e)) ≡ drop entry_length e = drop-drop 12 4 (drop 4 e) ∙ drop-drop 16 4 e in
+      rw (p, q, r) (wrote_as (copied_all (entry a m) e (omega (arith, entry_size a m)) ∙ entry_bytes a m h)
+      (record { used = refl; left = ap (λ l. entry_front a (0 ∷ 0 ∷ 0 ∷ m ∷ l)) d }))
 
-twenty : (a m : ℕ) {e : List ℕ} → Front 20 e → Wrote (entry_front a (0 ∷ 0 ∷ 0 ∷ m ∷ [])) e (entry_stored e a m) 20
-twenty a m (more (more (more (more (more (more (more (more (more (more (more (more (more (more (more (more (more (more (more (more front-none)))))))))))))))))))) =
-    record { used = refl; left = refl }
-
-pub entry_stored_lem : (a m : ℕ) (e : List ℕ) → m < 256 → entry_length ≤ length e → Wrote (copied (entry a m) e) e (entry_stored e a m) entry_length
-entry_stored_lem a m e h room = wrote_as (copied_all (entry a m) e (omega (arith, entry_size a m)) ∙ entry_bytes a m h) (twenty a m (front_of entry_length e room))
-
-pub entry_unstored : (a m : ℕ) (e : List ℕ) → length e < entry_length → Wrote (copied (entry a m) e) e e 0
-entry_unstored a m e h = wrote_none e (copied_none (entry a m) e (omega (arith, entry_size a m)))
+  pub entry_unstored : length e < entry_length → Wrote (copied (entry a m) e) e e 0
+  entry_unstored h = wrote_none e (copied_none (entry a m) e (omega (arith, entry_size a m)))
 
 -- an entry that was written, whatever follows it
 module _ (a m : ℕ) (r : List ℕ) (word : a < 2 ^ 32) (right : metric_fault m ≡ false) where

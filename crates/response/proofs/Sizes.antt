@@ -1,7 +1,7 @@
 -- Lengths of entries and messages, how many nodes come before a message, and the room that messages take.
 -- Assumes nothing.
-use mathlib.Core.Path.{◌≡◌, refl, ap, ◌∙◌}
-use mathlib.Core.List.{List, [], ◌++◌}
+use mathlib.Core.Path.{◌≡◌, refl, sym, ap, ◌∙◌}
+use mathlib.Core.List.{List, ◌++◌, append-nil, append_assoc}
 use Prim.Native.Nat.{ℕ, zero, suc, ◌+◌, ◌*◌, ◌<◌, ◌≤◌, min}
 use native.Mathlib.Omega.{arith}
 use lib.ListN.{length, length-append}
@@ -32,15 +32,15 @@ module _ (base : ℕ) (metrics : ℕ → ℕ) (y d : ℕ) where
   unfolding message
   message_size = omega (arith, length-append header (entries base metrics y d), header_size, entries_size)
 
--- no entries, and one more
-pub entries_none : (base : ℕ) (metrics : ℕ → ℕ) (y : ℕ) → entries base metrics y 0 ≡ []
-unfolding entries
-entries_none base metrics y = each_zero (λ i. entry (address base i) (metrics i)) y
+-- a message without entries, and with one more
+module _ (base : ℕ) (metrics : ℕ → ℕ) (y : ℕ) where
+  pub message_none : message base metrics y 0 ≡ header
+  unfolding message entries
+  message_none = rw (each_zero (λ i. entry (address base i) (metrics i)) y) (append-nil header)
 
-pub entries_next : (base : ℕ) (metrics : ℕ → ℕ) (y d : ℕ)
-    → entries base metrics y (d + 1) ≡ entries base metrics y d ++ entry (address base (y + d)) (metrics (y + d))
-unfolding entries
-entries_next base metrics y d = each_last (λ i. entry (address base i) (metrics i)) y d
+  pub message_next : (d : ℕ) → message base metrics y (d + 1) ≡ message base metrics y d ++ entry (address base (y + d)) (metrics (y + d))
+  unfolding message entries
+  message_next d = ap (λ l. header ++ l) (each_last (λ i. entry (address base i) (metrics i)) y d) ∙ sym (append_assoc header _ _)
 
 -- ---- the nodes before a message
 
@@ -89,8 +89,11 @@ module _ (n : ℕ) where
       rw (e, each_next (λ j. each g (first_node j) (entry_count_of n j)) k, each_grouped g k (omega arith), before_next k, each_split g 0 (nodes_before n k) (entry_count_of n k), b)
 
   module _ (base : ℕ) (metrics : ℕ → ℕ) where
-    -- the bytes of the messages before k
-    pub before_size : (k : ℕ) → length (each (λ j. message base metrics (first_node j) (entry_count_of n j)) 0 k) ≡ k * header_length + nodes_before n k * entry_length
+    -- the messages before k, and their bytes
+    abbrev pub messages_before : ℕ → List ℕ
+    messages_before k = each (λ j. message base metrics (first_node j) (entry_count_of n j)) 0 k
+
+    pub before_size : (k : ℕ) → length (messages_before k) ≡ k * header_length + nodes_before n k * entry_length
     before_size zero = ap length (each_zero (λ j. message base metrics (first_node j) (entry_count_of n j)) 0) ∙ omega (arith, before_first)
     before_size (suc k) =
         let f : ℕ → List ℕ = λ j. message base metrics (first_node j) (entry_count_of n j) in

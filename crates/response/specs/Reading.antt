@@ -1,12 +1,10 @@
 -- Change request Three: Response messages read back, given base and n: metric, entry, message, buffer, and the reading call.
 -- Assumes nothing.
-use Rattle.std.specs.Prelude.{◌≡◌, Bool, cond, not, ◌||◌, List, [], ◌∷◌, ◌++◌, ℕ, ◌+◌, ◌*◌, ◌-◌, eqb, ltb, length, drop, replicate}
-use Rattle.network.specs.Faults.{max_nodes}
+use Rattle.std.specs.Prelude.{Bool, cond, not, ◌||◌, List, [], ◌∷◌, ℕ, ◌+◌, ◌*◌, eqb, ltb, length, drop}
 use Rattle.network.specs.Round.{some}
 use Rattle.records.specs.Numbers.{num8, num16, num32}
 use Rattle.records.specs.Image.{each}
 use Rattle.response.specs.Messages.{infinity, address, mask, entry_length, header_length, most_entries, message_count_of, first_node, entry_count_of, messages_length_of, given_then}
-use Rattle.response.specs.declared.MetricsRead.{MetricsRead}
 
 -- a field with the value v is wrong where w is right
 abbrev pub differs : ℕ → ℕ → Bool
@@ -88,13 +86,3 @@ reading k metrics = record { number = k; metrics = cond (eqb k 0) metrics [] }
 
 unfoldable pub read_of : ℕ → ℕ → List ℕ → Reading
 read_of base n b = reading (read_number base n b) (buffer_metrics n b)
-
--- the metrics in the places of 32 nodes; 0 in the others
-unfoldable pub places : List ℕ → List ℕ
-places metrics = metrics ++ replicate (max_nodes - length metrics) 0
-
--- the call answered r
-pub record Reads (o : Reading) (r : MetricsRead) : Type 0 where
-  pub number : r.number ≡ o.number
-  pub nodes : r.nodes ≡ length o.metrics
-  pub metrics : r.metrics ≡ places o.metrics

@@ -6,7 +6,7 @@
 
 ghost use Rattle.std.specs.Prelude.{◌≤◌, length, IfOk};
 
-use arguments::{BaseRead, CountRead};
+use command::{Refusal, Said};
 use std::env::{Env, FillError};
 use std::io;
 use std::io::Write;
@@ -32,54 +32,31 @@ fn argument_count(rt: &HostRuntime) -> usize {
     5
 }
 
-fn base_argument(rt: &HostRuntime, i: usize) -> BaseRead {
+// What an argument is read as.
+fn argument<T, F: FnOnce(&[u8]) -> Option<T>>(rt: &HostRuntime, i: usize, read: F) -> Option<T>
+    requires { F.IsAlwaysCallable read }
+{
     let mut text = [0u8; MOST];
-    match rt.arg(i, &mut text) {
-        Ok(n) => arguments::read_base(&text[..n]),
-        Err(_) => BaseRead::Unreadable,
-    }
-}
-
-fn count_argument(rt: &HostRuntime, i: usize) -> CountRead {
-    let mut text = [0u8; MOST];
-    match rt.arg(i, &mut text) {
-        Ok(n) => arguments::read_count(&text[..n]),
-        Err(_) => CountRead::Unreadable,
-    }
-}
-
-fn is_flag_first(rt: &HostRuntime) -> bool {
-    let mut text = [0u8; MOST];
-    match rt.arg(1, &mut text) {
-        Ok(n) => arguments::is_flag(&text[..n]),
-        Err(_) => false,
-    }
+    let n = rt.arg(i, &mut text).ok()?;
+    read(&text[..n])
 }
 
 // ---- what is written
 
-// What failed, on standard error; if that fails too, nothing is left to say.
-fn fail(rt: &HostRuntime, what: &str, error: io::Error) {
-    let _said = eprintln!(rt; "rip: {what}: {error}");
-}
-
-fn say(rt: &HostRuntime, is_error: bool, text: &[u8]) {
-    if is_error {
-        if let Err(error) = rt.stderr().write_all(text) {
-            fail(rt, "standard error", error);
+// Text to standard output, or why there is none to standard error.
+fn say(rt: &HostRuntime, said: Result<Said, Refusal>) {
+    match said {
+        Ok(text) => {
+            if let Err(error) = rt.stdout().write_all(&text) {
+                input::fail(rt, "rip", "standard output", error);
+            }
         }
-        return;
+        Err(refusal) => {
+            if let Err(error) = rt.stderr().write_all(&command::line_of(refusal)) {
+                input::fail(rt, "rip", "standard error", error);
+            }
+        }
     }
-    if let Err(error) = rt.stdout().write_all(text) {
-        fail(rt, "standard output", error);
-    }
-}
-
-fn say_usage(rt: &HostRuntime) {
-    let mut text = [0u8; command::MAX_SAID];
-    let said = command::usage_said(&mut text);
-    let n = said.used;
-    say(rt, said.is_error, &text[..n]);
 }
 
 // ---- writing
@@ -94,73 +71,47 @@ fn read_run(rt: &HostRuntime, base: u32, room: &mut [u8]) -> io::Result<usize>
     input::read_all(&mut rt.stdin(), room)
 }
 
-fn write_run(rt: &HostRuntime, base: u32, run: &[u8]) {
-    let mut text = [0u8; command::MAX_SAID];
-    let said = command::write_said(base, run, &mut text);
-    let n = said.used;
-    say(rt, said.is_error, &text[..n]);
-}
-
 fn write_messages(rt: &HostRuntime, base: u32) {
     let mut room = [0u8; RUN_ROOM];
     match read_run(rt, base, &mut room) {
-        Ok(end) => write_run(rt, base, &room[..end]),
-        Err(error) => fail(rt, "standard input", error),
+        Ok(end) => say(rt, command::write_said(base, &room[..end])),
+        Err(error) => input::fail(rt, "rip", "standard input", error),
     }
+}
+
+// `rip BASE`; None where it can't be read.
+fn run_writing(rt: &HostRuntime) -> Option<()> {
+    let base = argument(rt, 1, arguments::read_base)?;
+    write_messages(rt, base);
+    Some(())
 }
 
 // ---- reading
 
-fn read_input(rt: &HostRuntime, base: u32, count: u32, messages: &[u8]) {
-    let mut text = [0u8; command::MAX_SAID];
-    let said = command::read_said(base, count, messages, &mut text);
-    let n = said.used;
-    say(rt, said.is_error, &text[..n]);
-}
-
 fn read_messages(rt: &HostRuntime, base: u32, count: u32) {
     let mut room = [0u8; MESSAGES_ROOM];
     match input::read_all(&mut rt.stdin(), &mut room) {
-        Ok(end) => read_input(rt, base, count, &room[..end]),
-        Err(error) => fail(rt, "standard input", error),
+        Ok(end) => say(rt, command::read_said(base, count, &room[..end])),
+        Err(error) => input::fail(rt, "rip", "standard input", error),
     }
 }
 
-// `rip BASE`.
-fn run_writing(rt: &HostRuntime) {
-    let BaseRead::Base(base) = base_argument(rt, 1) else {
-        say_usage(rt);
-        return;
-    };
-    write_messages(rt, base);
-}
-
-// `rip -r BASE N`.
-fn run_reading(rt: &HostRuntime) {
-    if !is_flag_first(rt) {
-        say_usage(rt);
-        return;
-    }
-    let BaseRead::Base(base) = base_argument(rt, 2) else {
-        say_usage(rt);
-        return;
-    };
-    let CountRead::Count(count) = count_argument(rt, 3) else {
-        say_usage(rt);
-        return;
-    };
+// `rip -r BASE N`; None where one can't be read.
+fn run_reading(rt: &HostRuntime) -> Option<()> {
+    argument(rt, 1, |text| arguments::is_flag(text).then_some(()))?;
+    let base = argument(rt, 2, arguments::read_base)?;
+    let count = argument(rt, 3, arguments::read_count)?;
     read_messages(rt, base, count);
+    Some(())
 }
 
 fn main(rt: HostRuntime) {
-    let count = argument_count(&rt);
-    if count == 2 {
-        run_writing(&rt);
-        return;
+    let done = match argument_count(&rt) {
+        2 => run_writing(&rt),
+        4 => run_reading(&rt),
+        _ => None,
+    };
+    if done.is_none() {
+        say(&rt, Err(Refusal::Usage));
     }
-    if count == 4 {
-        run_reading(&rt);
-        return;
-    }
-    say_usage(&rt);
 }

@@ -4,102 +4,68 @@
 // precondition.
 #![tactic(auto)]
 
-ghost use Rattle.std.specs.Prelude.{◌≡◌, length};
-ghost use Rattle.network.specs.Faults.{max_nodes};
+ghost use Rattle.std.specs.Prelude.{◌≡◌};
+ghost use Rattle.network.specs.Answered.{answered};
 ghost use Rattle.network.specs.Route.{start_number_of, walk_back_of, route_of};
 ghost use Rattle.network.specs.Writing.{Writes};
 ghost use Rattle.memory.specs.Layout.{view};
-ghost use Rattle.route.specs.Inner.{Laid};
+ghost use Rattle.route.specs.Inner.{walked};
 
 use memory::{Network, RowRead};
-use network::Written;
+use network::{Fault, NODES};
 
-// The most nodes of a route.
-const MOST: usize = network::MAX_NODES as usize;
-
-// 3 for a node not below n, 8 for a node without a route, else 0.
-fn start_number(net: &Network, node: u32) -> u8
-    ensures { result ≡ start_number_of (view net.now) node }
+// Refused as Range for a node not below n, and as NoRoute for a node without a route.
+fn check_start(net: &Network, node: u32) -> Result<(), Fault>
+    ensures { answered result ≡ start_number_of (view net.now) node }
 {
-    let row = memory::row(net, node);
-    match row {
-        RowRead::Refused => 3,
-        RowRead::NoRoute => 8,
-        RowRead::Origin { list: _, hops: _ } => 0,
-        RowRead::Route {
-            label: _,
-            predecessor: _,
-            list: _,
-            hops: _,
-        } => 0,
+    match memory::row(net, node)? {
+        RowRead::NoRoute => Err(Fault::NoRoute),
+        _ => Ok(()),
     }
 }
 
 // Follows predecessors back from the node and stores the nodes met from the end of the bytes on, so that the origin comes first. Answers
-// how many they are, or 0 where the walk meets a node without a route or one already met.
-fn walk_back(net: &Network, node: u32, bytes: &mut [u8]) -> usize
-    requires { length bytes.old ≡ max_nodes }
-    ensures { Laid (walk_back_of (view net.now) node) bytes.new result }
+// the part with the route; none where the walk meets a node without a route or one already met.
+fn walk_back<'a>(net: &Network, node: u32, bytes: &'a mut [u8; NODES]) -> Option<&'a [u8]>
+    ensures { walked result ≡ walk_back_of (view net.now) node }
 {
     let mut met = 0u32;
     let mut y = node;
-    let mut left = MOST;
-    while 0 < left {
+    for left in (0..NODES).rev() {
         if ancestors::listed(met, y) {
-            return 0;
+            return None;
         }
-        let row = memory::row(net, y);
+        let Ok(row) = memory::row(net, y) else {
+            return None;
+        };
         match row {
-            RowRead::Refused => {
-                return 0;
-            }
-            RowRead::NoRoute => {
-                return 0;
-            }
+            RowRead::NoRoute => return None,
             RowRead::Origin { list: _, hops: _ } => {
-                left = left - 1;
                 bytes[left] = y as u8;
-                return MOST - left;
+                return Some(&bytes[left..]);
             }
-            RowRead::Route {
-                label: _,
-                predecessor,
-                list: _,
-                hops: _,
-            } => {
-                left = left - 1;
+            RowRead::Relay { route, hops: _ } => {
                 bytes[left] = y as u8;
                 met = ancestors::joined(met, y);
-                y = predecessor;
+                y = route.predecessor;
             }
         }
     }
-    0
+    None
 }
 
-// Writes the nodes from the origin to the node into the output. Refused as 3 for a node not below n; as 8 for a node without a route; as 9
-// where the walk meets a node without a route or one already met; as 6 for an output shorter than the route.
-pub fn route(net: &Network, node: u32, out: &mut [u8]) -> Written
+// Writes the nodes from the origin to the node into the output. Refused as Range for a node not below n; as NoRoute for a node without a
+// route; as Broken where the walk meets a node without a route or one already met; as Room for an output shorter than the route.
+pub fn route(net: &Network, node: u32, out: &mut [u8]) -> Result<usize, Fault>
     ensures { Writes (route_of (view net.now) node out.old) result out.new }
 {
-    let first = start_number(net, node);
-    if first != 0 {
-        return Written {
-            number: first,
-            used: 0,
-        };
+    check_start(net, node)?;
+    let mut bytes = [0u8; NODES];
+    let Some(nodes) = walk_back(net, node, &mut bytes) else {
+        return Err(Fault::Broken);
+    };
+    if out.len() < nodes.len() {
+        return Err(Fault::Room);
     }
-    let mut bytes = [0u8; MOST];
-    let k = walk_back(net, node, &mut bytes);
-    if k == 0 {
-        return Written { number: 9, used: 0 };
-    }
-    if out.len() < k {
-        return Written { number: 6, used: 0 };
-    }
-    let from = MOST - k;
-    Written {
-        number: 0,
-        used: filling::copy(&bytes[from..], out),
-    }
+    Ok(filling::copy(nodes, out))
 }

@@ -3,22 +3,15 @@
 // `input` reads, and `table` makes what is printed.
 #![tactic(auto)]
 
-use std::io;
 use std::io::Write;
 
 // One byte more than the longest input, so that a longer one is known without reading all of it.
 const ROOM: usize = text::MAX_INPUT + 1;
 
-// What failed, on standard error; if that fails too, nothing is left to say.
-fn fail(rt: &HostRuntime, what: &str, error: io::Error) {
-    let _said = eprintln!(rt; "routes: {what}: {error}");
-}
-
 fn print_table(rt: &HostRuntime, run: &[u8]) {
-    let mut text = [0u8; table::MAX_TEXT];
-    let n = table::write_text(run, &mut text);
-    if let Err(error) = rt.stdout().write_all(&text[..n]) {
-        fail(rt, "standard output", error);
+    let text = table::write_text(run);
+    if let Err(error) = rt.stdout().write_all(&text) {
+        input::fail(rt, "routes", "standard output", error);
     }
 }
 
@@ -26,6 +19,6 @@ fn main(rt: HostRuntime) {
     let mut room = [0u8; ROOM];
     match input::read_all(&mut rt.stdin(), &mut room) {
         Ok(end) => print_table(&rt, &room[..end]),
-        Err(error) => fail(&rt, "standard input", error),
+        Err(error) => input::fail(&rt, "routes", "standard input", error),
     }
 }

@@ -18,9 +18,11 @@ use Rattle.network.specs.Faults.{pair_fault_of}
 use Rattle.network.specs.Network.{Row, via, Report, empty, Net, set_at, with_row}
 use Rattle.network.proofs.FaultLaws.{pair_same, pair_free}
 use Rattle.network.specs.Round.{choice, renew_to, renew}
-use Rattle.network.specs.Words.{report_of, cost_of, reports, costs_of, ChoiceAnswer, chosen, words_fault, choose_of, choice_means}
-use Rattle.network.specs.declared.Choice.{Choice}
-use Rattle.network.specs.declared.Choice.TheVariants.{Refused, NoRoute, Route}
+use Rattle.network.specs.Words.{report_of, cost_of, reports, costs_of, ChoiceAnswer, chosen, words_fault, choose_of, row_means, choice_means}
+use Rattle.std.specs.Prelude.{Option, Some, None, Result, Ok, Err, unwrap_or}
+use Rattle.std.specs.Result.{result_unwrap_or}
+use Rattle.network.specs.declared.Fault.{Fault}
+use Rattle.network.specs.declared.Route.{Route}
 use Rattle.network.proofs.Choosing.{choice_ext, came}
 use Rattle.memory.specs.Layout.{word_count, row_of, look, view, arc_bits, arc_costs, held_labels, held_lists}
 use Rattle.memory.specs.Inner.{Node}
@@ -98,28 +100,20 @@ module _ (xs : List ℕ) (size : length xs ≡ word_count) (n y : ℕ) (is : n �
       (ap chosen (choice_ext n (costs_of arcs costs) (λ s. (view xs).cost s y) (reports arcs labels lists) (λ s. (view xs).held s y) y cost_at held_at))
 
 -- ---- the words of a choice are those of the chosen row
-module _ (n : ℕ) (cost : ℕ → ℕ) (held : ℕ → Report) (y : ℕ) (r : Choice) (e : choice_means r ≡ chosen (choice n cost held y)) where
-  abbrev row : Row
-  row = choice n cost held y
 
-  pub route_words_lem : (d p l : ℕ) → r ≡ Route d p l → row_of d p l ≡ row
-  unfolding row_of choice_means
-  route_words_lem d p l q =
-      let f : chosen (via d p l) ≡ chosen row = sym (ap choice_means q) ∙ e in
-      let same : row ≡ via d p l = sym (ap (λ (a : ChoiceAnswer). a.row) f) in
-      let k = came n cost held y d p l same in
-      rw (ne_eqb l 0 (λ z. put_some k.offered.list y (sym k.list ∙ z))) (sym same)
+-- the words of a network are never refused
+pub choice_row : (r : Result (Option Route) Fault) (w : Row) → choice_means r ≡ chosen w → row_means (result_unwrap_or r None) ≡ w
+unfolding row_means choice_means
+choice_row (Ok w) row e = ap (λ (a : ChoiceAnswer). a.row) e
+choice_row (Err f) row e = ap (λ (a : ChoiceAnswer). a.row) e
 
-  pub no_route_words : r ≡ NoRoute → row_of 0 0 0 ≡ row
-  unfolding row_of choice_means
-  no_route_words q = ap (λ (a : ChoiceAnswer). a.row) (sym (ap choice_means q) ∙ e)
-
-  -- the words of a network are never refused
-  pub never_refused : r ≡ Refused → row_of 0 0 0 ≡ row
-  unfolding choice_means
-  never_refused q =
-      let f : ◌≡◌ {A = ℕ} 3 0 = ap (λ (a : ChoiceAnswer). a.number) (sym (ap choice_means q) ∙ e) in
-      absurd (omega arith)
+pub route_words : (n : ℕ) (cost : ℕ → ℕ) (held : ℕ → Report) (y : ℕ) (r : Option Route) (w : Route) → w ≡ unwrap_or r (record { label = 0; predecessor = 0; list = 0 })
+    → row_means r ≡ choice n cost held y → row_of w.label w.predecessor w.list ≡ choice n cost held y
+unfolding row_of row_means
+route_words n cost held y None w is e = rw is e
+route_words n cost held y (Some v) w is e =
+    let k = came n cost held y v.label v.predecessor v.list (sym e) in
+    rw (is, ne_eqb v.list 0 (λ z. put_some k.offered.list y (sym k.list ∙ z))) e
 
 -- ---- row by row
 

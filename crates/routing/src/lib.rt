@@ -5,10 +5,11 @@
 #![tactic(auto)]
 
 ghost use Rattle.std.specs.Prelude.{◌≡◌, ◌≢◌, cond, ◌<◌, length, set};
+ghost use Rattle.network.specs.Answered.{answered};
 ghost use Rattle.network.specs.Network.{with_row};
 ghost use Rattle.network.specs.Round.{choice, hear, renew, round, round_of, full_round_of};
-ghost use Rattle.network.specs.Words.{chosen, choice_means};
-ghost use Rattle.memory.specs.Layout.{word_count, view, row_of};
+ghost use Rattle.network.specs.Words.{row_means};
+ghost use Rattle.memory.specs.Layout.{word_count, view};
 ghost use Rattle.memory.specs.Inner.{Node};
 ghost use Rattle.memory.specs.Answers.{Leaves};
 ghost use Rattle.routing.specs.Inner.{Nodes, Primed, Hears, OnArc, OnArcs, Given, RowWord, given, one_mark, row_marks, outside, stray_rows, idle_rows};
@@ -16,7 +17,7 @@ ghost use Rattle.routing.specs.Inner.{Nodes, Primed, Hears, OnArc, OnArcs, Given
 use memory::{
     ARCS, COSTS, HELD_LABELS, HELD_LISTS, Network, ORIGIN, ROW_LABELS, ROW_LISTS, ROW_PREDECESSORS,
 };
-use network::Choice;
+use network::{Fault, Route};
 
 // ---- hearing
 
@@ -146,36 +147,28 @@ fn hear_marks(net: &mut [u32], n: usize, full: bool, marks: &[u32])
 
 // ---- new rows
 
-fn choose_row(net: &[u32], n: usize, receiver: usize) -> Choice
+// The words of a network are never refused.
+fn choose_row(net: &[u32], n: usize, receiver: usize) -> Option<Route>
     requires net_len { length net.now ≡ word_count }
     requires nodes { Nodes net.now n }
     requires node { Node net.now receiver }
-    ensures { choice_means result ≡ chosen (choice n (λ s. (view net.now).cost s receiver) (λ s. (view net.now).held s receiver) receiver) }
+    ensures { row_means result ≡ choice n (λ s. (view net.now).cost s receiver) (λ s. (view net.now).held s receiver) receiver }
 {
     let arcs = ancestors::left_out(net[ARCS + receiver], receiver as u32);
     let c = COSTS + receiver * 32;
     let d = HELD_LABELS + receiver * 32;
     let l = HELD_LISTS + receiver * 32;
-    rule::choose(
+    let chosen = rule::choose(
         arcs,
         &net[c..c + n],
         &net[d..d + n],
         &net[l..l + n],
         receiver as u32,
-    )
+    );
+    chosen.unwrap_or(None)
 }
 
-fn store_row(net: &mut [u32], node: usize, label: u32, predecessor: u32, list: u32)
-    requires net_len { length net.old ≡ word_count }
-    requires node { Node net.old node }
-    requires not_origin { node ≢ (view net.old).origin }
-    ensures { view net.new ≡ with_row (view net.old) node (row_of label predecessor list) }
-{
-    net[ROW_LABELS + node] = label;
-    net[ROW_PREDECESSORS + node] = predecessor;
-    net[ROW_LISTS + node] = list;
-}
-
+// No route is words of 0.
 fn renew_row(net: &mut [u32], n: usize, receiver: usize)
     requires net_len { length net.old ≡ word_count }
     requires nodes { Nodes net.old n }
@@ -183,16 +176,15 @@ fn renew_row(net: &mut [u32], n: usize, receiver: usize)
     requires not_origin { receiver ≢ (view net.old).origin }
     ensures { view net.new ≡ with_row (view net.old) receiver (choice n (λ s. (view net.old).cost s receiver) (λ s. (view net.old).held s receiver) receiver) }
 {
-    let row = choose_row(net, n, receiver);
-    match row {
-        Choice::Route {
-            label,
-            predecessor,
-            list,
-        } => store_row(net, receiver, label, predecessor, list),
-        Choice::NoRoute => store_row(net, receiver, 0, 0, 0),
-        Choice::Refused => store_row(net, receiver, 0, 0, 0),
-    }
+    let none = Route {
+        label: 0,
+        predecessor: 0,
+        list: 0,
+    };
+    let route = choose_row(net, n, receiver).unwrap_or(none);
+    net[ROW_LABELS + receiver] = route.label;
+    net[ROW_PREDECESSORS + receiver] = route.predecessor;
+    net[ROW_LISTS + receiver] = route.list;
 }
 
 fn renew_rows(net: &mut [u32], n: usize)
@@ -258,31 +250,30 @@ fn idle_marks(net: &[u32], n: u32, marks: &[u32]) -> bool
 
 // ---- a round
 
-// A round on 32 words of marks; word r has bit s for "r heard s". Answers 0; 1 for another number of words; 3 for a mark out of range or
-// from a node to itself, anywhere; then 7 for a mark without an arc, anywhere.
-pub fn round(net: &mut Network, marks: &[u32]) -> u8
-    ensures { Leaves (round_of (view net.old) marks.now) result net.old net.new }
+// A round on 32 words of marks; word r has bit s for "r heard s". Refused as Cut for another number of words; as Range for a mark out of range or
+// from a node to itself, anywhere; then as Mark for a mark without an arc, anywhere.
+pub fn round(net: &mut Network, marks: &[u32]) -> Result<(), Fault>
+    ensures { Leaves (round_of (view net.old) marks.now) (answered result) net.old net.new }
 {
     if marks.len() != 32 {
-        return 1;
+        return Err(Fault::Cut);
     }
     let n = memory::nodes(net);
     if idle_marks(net, n, marks) {
         if stray_marks(n, marks) {
-            return 3;
+            return Err(Fault::Range);
         }
-        return 7;
+        return Err(Fault::Mark);
     }
     advance(net, n as usize, false, marks);
-    0
+    Ok(())
 }
 
-// A round with every arc heard: each receiver's marks are the word of its arcs. It is never refused: it answers 0.
-pub fn full_round(net: &mut Network) -> u8
-    ensures { Leaves (full_round_of (view net.old)) result net.old net.new }
+// A round with every arc heard: each receiver's marks are the word of its arcs. It is never refused.
+pub fn full_round(net: &mut Network)
+    ensures { Leaves (full_round_of (view net.old)) 0 net.old net.new }
 {
     let n = memory::nodes(net);
     let none = [0u32; 1];
     advance(net, n as usize, true, &none);
-    0
 }

@@ -3,25 +3,28 @@
 -- Assumes nothing.
 use Rattle.std.specs.Prelude.{Some, None}
 use mathlib.Core.Path.{◌≡◌, refl, sym, ap, subst, ◌∙◌}
-use mathlib.Core.Bool.{Bool, true, false, cond, ◌||◌}
+use mathlib.Core.Bool.{Bool, true, false, cond, ◌&&◌, ◌||◌}
 use mathlib.Core.Logic.{◌⊎◌, inl, inr, ◌≢◌}
 use mathlib.Core.List.{List}
-use Prim.Native.Nat.{ℕ, zero, suc, ◌+◌, ◌-◌, ◌^◌, ◌<◌, ◌≤◌}
+use Prim.Native.Nat.{ℕ, zero, suc, ◌+◌, ◌-◌, ◌%◌, ◌^◌, ◌<◌, ◌≤◌}
 use native.Mathlib.Omega.{arith}
 use native.Mathlib.Numerals.{add-one}
 use lib.Dec.{eqb, ltb, leb}
-use lib.ListN.{length, get_or}
+use lib.ListN.{get_or}
 use lib.Count.{ones}
 use borrow.Author.Tests.{lt-ltb, le-ltb, le-leb, lt-leb, ltb-true, ltb-false, eq-eqb, ne_eqb}
 use Rattle.ancestors.specs.Ancestors.{has, put, count}
 use Rattle.ancestors.proofs.Cases.{le_or_lt, eq_or_ne, bool_cases, clash}
 use Rattle.ancestors.proofs.Laws.{ones_count}
+use Rattle.ancestors.proofs.Sets.{has_low}
 use Rattle.network.specs.Faults.{max_label}
 use Rattle.network.specs.Network.{none, via, empty, told}
 use Rattle.network.specs.Round.{Offer, offer, list_of, goes_before, Winner, nobody, sender, against, winner, row_by, choice}
-use Rattle.network.specs.Words.{report_of, cost_of, reports, costs_of, offers_of, ones_of, alike, offer_below}
-use Rattle.network.proofs.Offers.{nothing_sum, made, Before, Won, no_one, some_one, won, won_once}
-use Rattle.rule.specs.Passed.{winner_of, Alone, Passed}
+use Rattle.network.specs.Words.{report_of, cost_of, reports, costs_of, ones_of, alike, offer_below}
+use Rattle.network.proofs.Offers.{nothing_sum, made, Before, Won, no_one, some_one, won, won_below}
+use Rattle.rule.specs.declared.Senders.{Senders}
+use Rattle.rule.specs.declared.Kept.{Kept}
+use Rattle.rule.specs.Passed.{count_of, sum_of, offers, ones_by, row_chosen, winner_of, Alone, Passed, Wins}
 
 -- ---- an offer below a limit
 
@@ -101,37 +104,44 @@ sum_is y c d l v o =
     go (inl q) e k h = let n : empty ≡ told e k = rw (eq-eqb l 0 q) at h in clash cc
     go (inr q) e k h = let t : told d l ≡ told e k = rw (ne_eqb l 0 q) at h in cc
 
+-- the list of a report over an arc
+list_over_arc : (arcs : ℕ) (labels lists : List ℕ) (s : ℕ) → has arcs s ≡ true → list_of (reports arcs labels lists s) ≡ get_or lists s 0
+list_over_arc arcs labels lists s h = rw h (list_of_words (get_or labels s 0) (get_or lists s 0))
+
+-- the ones of a report over an arc are the nodes of its list, counted
+pub ones_of_nodes : (arcs : ℕ) (labels lists : List ℕ) (s k : ℕ) → has arcs s ≡ true → get_or lists s 0 < 2 ^ 32 → k ≡ count (has (get_or lists s 0)) 32
+    → k ≡ ones_of arcs labels lists s
+ones_of_nodes arcs labels lists s k h fits e = e ∙ sym (ones_count 32 (get_or lists s 0) fits) ∙ ap ones (sym (list_over_arc arcs labels lists s h))
+
 -- ---- the two loops
 
-module _ (arcs : ℕ) (costs labels lists : List ℕ) (y : ℕ) where
+-- the senders before s were passed again: of those that offer the least sum, q has the fewest ones, k
+pub record Fewest (x : Senders) (kept : Kept) (s q k : ℕ) : Type 0 where
+  pub after : kept.from < s
+  pub wins : winner (offers x) (ones_by x) s ≡ winner_of (kept.most + 1) q
+  pub ones : k ≡ ones_by x q
+
+module _ (x : Senders) where
   abbrev f : ℕ → Offer
-  f = offers_of arcs costs labels lists y
+  f = offers x
 
   abbrev g : ℕ → ℕ
-  g = ones_of arcs labels lists
+  g = ones_by x
 
   -- an offer is at most the largest label
   small : (s v : ℕ) → f s ≡ Some v → v ≤ max_label
-  small s v o = (made y (costs_of arcs costs s) (reports arcs labels lists s) v o).fits
+  small s v o = (made x.receiver (costs_of x.arcs x.costs.now s) (reports x.arcs x.labels.now x.lists.now s) v o).fits
 
   -- it comes over an arc, and is label plus cost
-  over_arc : (s v : ℕ) → f s ≡ Some v → (has arcs s ≡ true) × (v ≡ get_or labels s 0 + cost_of (get_or costs s 0))
-  over_arc s v o = go (bool_cases (has arcs s))
+  over_arc : (s v : ℕ) → f s ≡ Some v → (has x.arcs s ≡ true) × (v ≡ sum_of x s)
+  over_arc s v o = go (bool_cases (has x.arcs s))
     where
-      go : (has arcs s ≡ true) ⊎ (has arcs s ≡ false) → (has arcs s ≡ true) × (v ≡ get_or labels s 0 + cost_of (get_or costs s 0))
-      go (inl t) = (t, sum_is y (cost_of (get_or costs s 0)) (get_or labels s 0) (get_or lists s 0) v (rw t at o))
-      go (inr t) = let m = made y 0 empty v (rw t at o) in let q : empty ≡ told m.label m.list = m.is in clash cc
-
-  -- the list of a report over an arc
-  list_over_arc : (s : ℕ) → has arcs s ≡ true → list_of (reports arcs labels lists s) ≡ get_or lists s 0
-  list_over_arc s h = rw h (list_of_words (get_or labels s 0) (get_or lists s 0))
-
-  -- the ones of a report over an arc are the nodes of its list, counted
-  pub ones_of_nodes : (s k : ℕ) → has arcs s ≡ true → get_or lists s 0 < 2 ^ 32 → k ≡ count (has (get_or lists s 0)) 32 → k ≡ g s
-  ones_of_nodes s k h fits e = e ∙ sym (ones_count 32 (get_or lists s 0) fits) ∙ ap ones (sym (list_over_arc s h))
+      go : (has x.arcs s ≡ true) ⊎ (has x.arcs s ≡ false) → (has x.arcs s ≡ true) × (v ≡ sum_of x s)
+      go (inl t) = (t, sum_is x.receiver (cost_of (get_or x.costs.now s 0)) (get_or x.labels.now s 0) (get_or x.lists.now s 0) v (rw t at o))
+      go (inr t) = let m = made x.receiver 0 empty v (rw t at o) in let q : empty ≡ told m.label m.list = m.is in clash cc
 
   -- an offer below a limit comes over an arc
-  pub below_arc : (m s v : ℕ) → offer_below m (f s) ≡ Some v → has arcs s ≡ true
+  below_arc : (m s v : ℕ) → offer_below m (f s) ≡ Some v → has x.arcs s ≡ true
   below_arc m s v h = (over_arc s v (below_sum m (f s) v h).0).0
 
   -- and is not 0
@@ -140,24 +150,20 @@ module _ (arcs : ℕ) (costs labels lists : List ℕ) (y : ℕ) where
   below_positive m s v h = omega (arith, (over_arc s v (below_sum m (f s) v h).0).1)
 
   -- a winner's comes over an arc
-  pub won_arc : (c : ℕ → ℕ) (n b p : ℕ) → winner f c n ≡ sender p b → has arcs p ≡ true
+  won_arc : (c : ℕ → ℕ) (n b p : ℕ) → winner f c n ≡ sender p b → has x.arcs p ≡ true
   won_arc c n b p e = go (subst (Won f c n) e (won f c n))
     where
-      go : Won f c n (sender p b) → has arcs p ≡ true
+      go : Won f c n (sender p b) → has x.arcs p ≡ true
       go (some_one below its low) = (over_arc p b its).0
 
-  -- the senders before k were passed, as the loops keep the least sum so far
-  abbrev Known : ℕ → ℕ → ℕ → ℕ → Type 0
-  Known = Passed arcs costs labels lists y
-
-  -- before the first of them
-  pub first_known : Known 0 max_label 0 0
+  -- before the first no sender is passed
+  pub first_known : (m : ℕ) → m ≡ max_label → Passed x 0 (record { most = m; from = 0; last = 0 })
   unfolding winner winner_of
-  first_known = record { least = refl; fits = omega arith; near = omega arith; only = λ r v after beyond below o. absurd (omega arith) }
+  first_known m e = record { least = rw e; fits = omega (arith, e); near = omega arith; only = λ r v after beyond below o. absurd (omega arith) }
 
   module _ (s b p : ℕ) (e : winner f alike s ≡ winner_of b p) where
     -- an offer that is not below the least sum is passed
-    pub first_pass : offer_below b (f s) ≡ None → winner f alike (s + 1) ≡ winner_of b p
+    first_pass : offer_below b (f s) ≡ None → winner f alike (s + 1) ≡ winner_of b p
     first_pass h = go (below_nothing b (f s) h)
       where
         go : (f s ≡ None) ⊎ ((v : ℕ) × (f s ≡ Some v) × (b ≤ v)) → winner f alike (s + 1) ≡ winner_of b p
@@ -169,15 +175,15 @@ module _ (arcs : ℕ) (costs labels lists : List ℕ) (y : ℕ) where
             not_less (inr q) = before_greater v 0 b 0 (omega (arith, q))
 
     -- and one below it is taken
-    pub first_take : (v : ℕ) → offer_below b (f s) ≡ Some v → (winner f alike (s + 1) ≡ winner_of v s) × (v ≤ max_label)
+    first_take : (v : ℕ) → offer_below b (f s) ≡ Some v → (winner f alike (s + 1) ≡ winner_of v s) × (v ≤ max_label)
     first_take v h =
         let o = below_sum b (f s) v h in
         let k = small s v o.0 in
         (winner_takes f alike s b p e v o.0 k (λ _. before_lesser v 0 b 0 o.1), k)
 
   -- passed with another sum than b, it leaves p and l alone
-  pub alone_pass : (s b p l : ℕ) → Alone arcs costs labels lists y b p l s → offer_below b (f s) ≡ None
-      → get_or labels s 0 + cost_of (get_or costs s 0) ≢ b → Alone arcs costs labels lists y b p l (s + 1)
+  alone_pass : (s b p l : ℕ) → Alone x b p l s → offer_below b (f s) ≡ None
+      → sum_of x s ≢ b → Alone x b p l (s + 1)
   alone_pass s b p l before h apart r v after beyond below o = go (eq_or_ne r s)
     where
       last : f s ≡ Some v → (f s ≡ None) ⊎ ((u : ℕ) × (f s ≡ Some u) × (b ≤ u)) → b < v
@@ -192,50 +198,50 @@ module _ (arcs : ℕ) (costs labels lists : List ℕ) (y : ℕ) where
       go (inr e) = before r v after beyond (omega (arith, e)) o
 
   -- a sender without an arc offers nothing
-  absent_nothing : (s : ℕ) → has arcs s ≡ false → f s ≡ None
+  absent_nothing : (s : ℕ) → has x.arcs s ≡ false → f s ≡ None
   unfolding offer
   absent_nothing s e = rw e
 
-  -- none of the senders from j on and before k has an arc
-  abbrev pub Absent : ℕ → ℕ → Type 0
-  Absent j k = (i : ℕ) → j ≤ i → i < k → has arcs i ≡ false
-
-  -- one such sender is passed, and any number of them
-  absent_one : (s m p l : ℕ) → has arcs s ≡ false → Known s m p l → Known (s + 1) m p l
-  absent_one s m p l e known =
+  -- and is passed
+  absent_pass : (s : ℕ) (kept : Kept) → has x.arcs s ≡ false → Passed x s kept → Passed x (s + 1) kept
+  absent_pass s kept e known =
       record {
-        least = winner_skips f alike s (m + 1) p known.least (absent_nothing s e);
+        least = winner_skips f alike s (kept.most + 1) kept.from known.least (absent_nothing s e);
         fits = known.fits;
         near = omega (arith, known.near);
         only = λ r v after beyond below o. go known.only r v after beyond below o (eq_or_ne r s);
       }
     where
-      go : Alone arcs costs labels lists y (m + 1) p l s → (r v : ℕ) → p < r → l < r → r < s + 1 → f r ≡ Some v → (r ≡ s) ⊎ (r ≢ s) → m + 1 < v
+      go : Alone x (kept.most + 1) kept.from kept.last s → (r v : ℕ) → kept.from < r → kept.last < r → r < s + 1 → f r ≡ Some v → (r ≡ s) ⊎ (r ≢ s) → kept.most + 1 < v
       go before r v after beyond below o (inl q) = nothing_sum (f s) (absent_nothing s e) (rw q at o)
       go before r v after beyond below o (inr q) = before r v after beyond (omega (arith, q)) o
 
-  absent_some : (j s m p l : ℕ) → Absent s (s + j) → Known s m p l → Known (s + j) m p l
-  absent_some zero s m p l none_has known = subst (λ k. Known k m p l) (omega arith) known
-  absent_some (suc j) s m p l none_has known =
-      subst (λ k. Known k m p l) (omega arith)
-      (absent_one (s + j) m p l (none_has (s + j) (omega arith) (omega arith)) (absent_some j s m p l (λ i from below. none_has i from (omega arith)) known))
+  -- so is one that is none of the nodes of the word of arcs below the number of senders
+  pub below_absent : (kept : Kept) (i : ℕ) → i < count_of x → has (x.arcs % 2 ^ count_of x) i ≡ false → Passed x i kept → Passed x (i + 1) kept
+  below_absent kept i h e =
+      let q : (ltb i (count_of x) && has x.arcs i) ≡ false = sym (has_low x.arcs (count_of x) i) ∙ e in
+      absent_pass i kept (rw (lt-ltb i (count_of x) h) at q)
 
-  pub absent_pass : (s k m p l : ℕ) → s ≤ k → Absent s k → Known s m p l → Known k m p l
-  absent_pass s k m p l h none_has known =
-      let e : s + (k - s) ≡ k = omega arith in
-      subst (λ i. Known i m p l) e (absent_some (k - s) s m p l (subst (λ i. Absent s i) (sym e) none_has) known)
+  -- after the first loop, where there is an offer: b is the least sum, and p the first that offers it
+  module _ (kept : Kept) (known : Passed x (count_of x) kept) (offered : kept.most < max_label) where
+    abbrev n : ℕ
+    n = count_of x
 
-  -- after the first loop
-  module _ (n b p : ℕ) (e : winner f alike n ≡ sender p b) where
+    abbrev b : ℕ
+    b = kept.most + 1
+
+    abbrev p : ℕ
+    p = kept.from
+
+    least_fits : b ≤ max_label
+    least_fits = omega arith
+
+    first_wins : winner f alike n ≡ sender p b
+    unfolding winner_of
+    first_wins = known.least ∙ rw (le-leb b max_label least_fits)
+
     first_won : Won f alike n (sender p b)
-    first_won = subst (Won f alike n) e (won f alike n)
-
-    -- the least sum is at most the largest label
-    pub least_fits : b ≤ max_label
-    least_fits = go first_won
-      where
-        go : Won f alike n (sender p b) → b ≤ max_label
-        go (some_one below its low) = small p b its
+    first_won = subst (Won f alike n) first_wins (won f alike n)
 
     -- no offer is less
     none_less : (r v : ℕ) → r < n → f r ≡ Some v → b ≤ v
@@ -262,48 +268,56 @@ module _ (arcs : ℕ) (costs labels lists : List ℕ) (y : ℕ) where
         go : Won f alike n (sender p b) → b < v
         go (some_one below its low) = less (low r v (omega arith) (λ q. omega arith) o)
 
-    -- where the least sum is not met again, its sender wins
-    pub alone_wins : (l : ℕ) → l ≤ p → Alone arcs costs labels lists y b p l n → winner f g n ≡ sender p b
-    alone_wins l near alone = won_once f g n (winner f g n) (sender p b) (won f g n) (go first_won)
-      where
-        more : (r v : ℕ) → r < n → r ≢ p → f r ≡ Some v → (r ≤ p) ⊎ (p < r) → b < v
-        more r v h q o (inl k) = more_before r v (omega (arith, q)) o
-        more r v h q o (inr k) = alone r v k (omega arith) h o
-
-        go : Won f alike n (sender p b) → Won f g n (sender p b)
-        go (some_one below its low) = some_one below its (λ r v h q o. inl (inl (more r v h q o (le_or_lt r p))))
-
     -- up to itself it wins at any rate
-    pub fewest_first : winner f g (p + 1) ≡ winner_of b p
+    fewest_first : winner f g (p + 1) ≡ winner_of b p
     unfolding winner against winner_of
-    fewest_first = rw (add-one, le-leb b max_label least_fits) (go first_won (winner f g p) (won f g p))
+    fewest_first = rw (add-one p, le-leb b max_label least_fits) (go first_won (winner f g p) (won f g p))
       where
         go : Won f alike n (sender p b) → (w : Winner) → Won f g p w → against g w p (f p) ≡ sender p b
         go (some_one below its low) nobody before = rw its
         go (some_one below its low) (sender r u) (some_one h o best) = rw (its, before_lesser b (g p) u (g r) (more_before r u h o))
 
-    module _ (s q : ℕ) (below : s < n) (w : winner f g s ≡ winner_of b q) where
+    pub fewest_begun : (k : ℕ) → get_or x.lists.now p 0 < 2 ^ 32 → k ≡ count (has (get_or x.lists.now p 0)) 32 → Fewest x kept (p + 1) p k
+    fewest_begun k fits nodes =
+        record { after = omega arith; wins = fewest_first; ones = ones_of_nodes x.arcs x.labels.now x.lists.now p k (won_arc alike n b p first_wins) fits nodes }
+
+    module _ (s q k : ℕ) (below : s < n) (again : Fewest x kept s q k) where
       -- a greater offer is passed
-      pub fewest_pass : offer_below (b + 1) (f s) ≡ None → winner f g (s + 1) ≡ winner_of b q
-      fewest_pass h = go (below_nothing (b + 1) (f s) h)
+      pub fewest_pass : offer_below (b + 1) (f s) ≡ None → Fewest x kept (s + 1) q k
+      fewest_pass h = record { after = omega (arith, again.after); wins = go (below_nothing (b + 1) (f s) h); ones = again.ones }
         where
           go : (f s ≡ None) ⊎ ((v : ℕ) × (f s ≡ Some v) × (b + 1 ≤ v)) → winner f g (s + 1) ≡ winner_of b q
-          go (inl o) = winner_skips f g s b q w o
-          go (inr (v, o, k)) = winner_leaves f g s b q w v o least_fits (before_greater v (g s) b (g q) (omega arith))
+          go (inl o) = winner_skips f g s b q again.wins o
+          go (inr (v, o, k)) = winner_leaves f g s b q again.wins v o least_fits (before_greater v (g s) b (g q) (omega arith))
 
-      -- any other is an equal one
-      same_sum : (v : ℕ) → offer_below (b + 1) (f s) ≡ Some v → f s ≡ Some b
-      same_sum v h =
-          let o = below_sum (b + 1) (f s) v h in
-          let same : v ≡ b = omega (arith, o.1, none_less s v below o.0) in
-          rw (← same) o.0
+      -- any other is an equal one, and that of fewer nodes is taken
+      module _ (v j : ℕ) (h : offer_below (b + 1) (f s) ≡ Some v) (fits : get_or x.lists.now s 0 < 2 ^ 32) (nodes : j ≡ count (has (get_or x.lists.now s 0)) 32) where
+        same_sum : f s ≡ Some b
+        same_sum =
+            let o = below_sum (b + 1) (f s) v h in
+            let same : v ≡ b = omega (arith, o.1, none_less s v below o.0) in
+            rw (← same) o.0
 
-      -- of equal offers that of fewer ones is taken
-      pub fewest_take : (v : ℕ) → offer_below (b + 1) (f s) ≡ Some v → g s < g q → winner f g (s + 1) ≡ winner_of b s
-      fewest_take v h few = winner_takes f g s b q w b (same_sum v h) least_fits (λ _. before_equal b (g s) b (g q) refl ∙ lt-ltb (g s) (g q) few)
+        ones_here : j ≡ g s
+        ones_here = ones_of_nodes x.arcs x.labels.now x.lists.now s j (below_arc (b + 1) s v h) fits nodes
 
-      pub fewest_leave : (v : ℕ) → offer_below (b + 1) (f s) ≡ Some v → g q ≤ g s → winner f g (s + 1) ≡ winner_of b q
-      fewest_leave v h few = winner_leaves f g s b q w b (same_sum v h) least_fits (before_equal b (g s) b (g q) refl ∙ le-ltb (g s) (g q) few)
+        pub fewest_take : j < k → Fewest x kept (s + 1) s j
+        fewest_take few =
+            record {
+              after = omega (arith, again.after);
+              wins = winner_takes f g s b q again.wins b same_sum least_fits
+                  (λ _. before_equal b (g s) b (g q) refl ∙ lt-ltb (g s) (g q) (omega (arith, ones_here, again.ones)));
+              ones = ones_here;
+            }
+
+        pub fewest_leave : k ≤ j → Fewest x kept (s + 1) q k
+        fewest_leave few =
+            record {
+              after = omega (arith, again.after);
+              wins = winner_leaves f g s b q again.wins b same_sum least_fits
+                  (before_equal b (g s) b (g q) refl ∙ le-ltb (g s) (g q) (omega (arith, ones_here, again.ones)));
+              ones = again.ones;
+            }
 
     -- where all the offers that follow are greater, the winner stays
     fewest_one : (s q : ℕ) → winner f g s ≡ winner_of b q → ((v : ℕ) → f s ≡ Some v → b < v) → winner f g (s + 1) ≡ winner_of b q
@@ -319,76 +333,123 @@ module _ (arcs : ℕ) (costs labels lists : List ℕ) (y : ℕ) where
         subst (λ k. winner f g k ≡ winner_of b q) (omega arith)
         (fewest_one (s + j) q (fewest_some j s q w (λ r v from below. more r v from (omega arith))) (λ v. more (s + j) v (omega arith) (omega arith)))
 
-    pub fewest_rest : (s q : ℕ) → s ≤ n → winner f g s ≡ winner_of b q → ((r v : ℕ) → s ≤ r → r < n → f r ≡ Some v → b < v) → winner f g n ≡ sender q b
+    fewest_rest : (s q : ℕ) → p < s → kept.last < s → s ≤ n → winner f g s ≡ winner_of b q → winner f g n ≡ sender q b
     unfolding winner_of
-    fewest_rest s q h w more =
+    fewest_rest s q after beyond h w =
         let e : s + (n - s) ≡ n = omega arith in
-        subst (λ k. winner f g k ≡ winner_of b q) e (fewest_some (n - s) s q w (λ r v from below. more r v from (omega arith))) ∙ rw (le-leb b max_label least_fits)
+        subst (λ k. winner f g k ≡ winner_of b q) e (fewest_some (n - s) s q w (λ r v from below. known.only r v (omega arith) (omega arith) (omega arith)))
+        ∙ rw (le-leb b max_label least_fits)
+
+    wins : (q : ℕ) → winner f g n ≡ sender q b → Wins x kept.most q
+    wins q w = record { winner_is = w; within = won_below f g n q b w }
+
+    -- where the least sum is not met again, its sender wins
+    pub alone_wins : kept.last ≤ p → Wins x kept.most p
+    alone_wins near = wins p (fewest_rest (p + 1) p (omega arith) (omega arith) (omega (arith, won_below f alike n p b first_wins)) fewest_first)
+
+    -- else the one that wins after the last that offers it
+    pub fewest_wins : (s q k : ℕ) → kept.last < s → s ≤ n → Fewest x kept s q k → Wins x kept.most q
+    fewest_wins s q k beyond h again = wins q (fewest_rest s q again.after beyond h again.wins)
 
   -- no offer after the first loop, and the row of the winner
-  pub choice_none : (b p : ℕ) → winner f alike (length costs) ≡ winner_of b p → max_label < b →
-      choice (length costs) (costs_of arcs costs) (reports arcs labels lists) y ≡ none
+  pub none_chosen : (kept : Kept) → Passed x (count_of x) kept → max_label ≤ kept.most → row_chosen x ≡ none
   unfolding choice row_by winner_of
-  choice_none b p w h =
-      go (subst (Won f alike (length costs)) (w ∙ rw (lt-leb b max_label h)) (won f alike (length costs))) (winner f g (length costs))
-      (won f g (length costs))
+  none_chosen kept known h =
+      go (subst (Won f alike (count_of x)) (known.least ∙ rw (lt-leb (kept.most + 1) max_label (omega arith))) (won f alike (count_of x)))
+      (winner f g (count_of x)) (won f g (count_of x))
     where
-      go : Won f alike (length costs) nobody → (v : Winner) → Won f g (length costs) v → row_by y (reports arcs labels lists) v ≡ none
+      go : Won f alike (count_of x) nobody → (v : Winner) → Won f g (count_of x) v → row_by x.receiver (reports x.arcs x.labels.now x.lists.now) v ≡ none
       go (no_one none-offers) nobody e = refl
       go (no_one none-offers) (sender r u) (some_one below its low) = nothing_sum (f r) (none-offers r below) its
 
-  pub choice_some : (b p : ℕ) → winner f g (length costs) ≡ sender p b →
-      choice (length costs) (costs_of arcs costs) (reports arcs labels lists) y ≡ via b p (put (get_or lists p 0) y)
+  -- with the list as `ancestors::joined` answers it
+  pub winner_chosen : (m q l : ℕ) → Wins x m q → l ≡ cond (ltb x.receiver 32) (put (get_or x.lists.now q 0) x.receiver) (get_or x.lists.now q 0)
+      → via (m + 1) q l ≡ row_chosen x
   unfolding choice row_by
-  choice_some b p w = rw w (ap (λ l. via b p (put l y)) (list_over_arc p (won_arc g (length costs) b p w)))
-
--- what the words of a winner stand for
-pub winner_is : (b p : ℕ) → b ≤ max_label → winner_of b p ≡ sender p b
-unfolding winner_of
-winner_is b p h = rw (le-leb b max_label h)
+  winner_chosen m q l w joined =
+      let e = w.winner_is in
+      rw (joined, lt-ltb x.receiver 32 x.receiver_bound, e) (ap (λ i. via (m + 1) q (put i x.receiver)) (sym (list_over_arc x.arcs x.labels.now x.lists.now q (won_arc g (count_of x) (m + 1) q e))))
 
 -- ---- an offer below a limit, from words
 
 -- case by case; with a limit of at most one more than the largest label a sum below it is an offer
-module _ (arcs s y c d l m : ℕ) where
-  -- the words make the offer o
-  abbrev Makes : Offer → Type 0
-  Makes o = o ≡ offer_below m (offer y (cond (has arcs s) c 0) (cond (has arcs s) (report_of d l) empty))
+module _ (x : Senders) (s m : ℕ) where
+  abbrev list : ℕ
+  list = get_or x.lists.now s 0
 
-  pub offer_absent : has arcs s ≡ false → Makes None
+  -- the sender makes the offer o
+  abbrev Makes : Offer → Type 0
+  Makes o = o ≡ offer_below m (offers x s)
+
+  pub offer_absent : has x.arcs s ≡ false → Makes None
   unfolding offer offer_below
   offer_absent e = rw e
 
   -- what makes nothing over an arc makes nothing
-  offer_either : None ≡ offer_below m (offer y c (report_of d l)) → Makes None
-  offer_either e = go (bool_cases (has arcs s))
+  offer_either : None ≡ offer_below m (offer x.receiver (cost_of (get_or x.costs.now s 0)) (report_of (get_or x.labels.now s 0) list)) → Makes None
+  offer_either e = go (bool_cases (has x.arcs s))
     where
-      go : (has arcs s ≡ true) ⊎ (has arcs s ≡ false) → Makes None
+      go : (has x.arcs s ≡ true) ⊎ (has x.arcs s ≡ false) → Makes None
       go (inl t) = rw t e
       go (inr t) = offer_absent t
 
   -- an empty report, or too large a sum
-  pub offer_empty : l ≡ 0 → Makes None
+  pub offer_empty : list ≡ 0 → Makes None
   unfolding offer report_of offer_below
-  offer_empty e = offer_either (rw (eq-eqb l 0 e))
+  offer_empty e = offer_either (rw (eq-eqb list 0 e))
 
-  pub offer_large : m ≤ d + c → Makes None
+  pub offer_large : m ≤ sum_of x s → Makes None
   unfolding offer report_of offer_below
-  offer_large h = go (eq_or_ne l 0)
+  offer_large h = go (eq_or_ne list 0)
     where
-      dear : (t : Bool) → None ≡ offer_below m (cond t None (Some (d + c)))
+      dear : (t : Bool) → None ≡ offer_below m (cond t None (Some (sum_of x s)))
       dear true = refl
-      dear false = rw (le-ltb (d + c) m h)
+      dear false = rw (le-ltb (sum_of x s) m h)
 
-      go : (l ≡ 0) ⊎ (l ≢ 0) → Makes None
+      go : (list ≡ 0) ⊎ (list ≢ 0) → Makes None
       go (inl e) = offer_empty e
-      go (inr e) = offer_either (rw (ne_eqb l 0 e) (dear (has l y || ltb max_label (d + c))))
+      go (inr e) = offer_either (rw (ne_eqb list 0 e) (dear (has list x.receiver || ltb max_label (sum_of x s))))
 
-  module _ (n : l ≢ 0) where
-    pub offer_listed : has l y ≡ true → Makes None
+  module _ (n : list ≢ 0) where
+    pub offer_listed : has list x.receiver ≡ true → Makes None
     unfolding offer report_of offer_below
-    offer_listed h = offer_either (rw (ne_eqb l 0 n, h))
+    offer_listed h = offer_either (rw (ne_eqb list 0 n, h))
 
-    pub offer_sum : has l y ≡ false → has arcs s ≡ true → m ≤ max_label + 1 → d + c < m → Makes (Some (d + c))
+    pub offer_sum : has list x.receiver ≡ false → has x.arcs s ≡ true → m ≤ max_label + 1 → sum_of x s < m → Makes (Some (sum_of x s))
     unfolding offer report_of offer_below
-    offer_sum a t fits h = rw (t, ne_eqb l 0 n, a, le-ltb max_label (d + c) (omega arith), lt-ltb (d + c) m h)
+    offer_sum a t fits h = rw (t, ne_eqb list 0 n, a, le-ltb max_label (sum_of x s) (omega arith), lt-ltb (sum_of x s) m h)
+
+-- ---- one sender passed
+
+module _ (x : Senders) (s : ℕ) (kept : Kept) (known : Passed x s kept) where
+  -- the least sum is met again
+  pub pass_equal : sum_of x s ≡ kept.most + 1 → Passed x (s + 1) (record { most = kept.most; from = kept.from; last = s })
+  pass_equal e =
+      record {
+        least = first_pass x s (kept.most + 1) kept.from known.least (sym (offer_large x s (kept.most + 1) (omega (arith, e))));
+        fits = known.fits;
+        near = omega arith;
+        only = λ r v after beyond below o. absurd (omega arith);
+      }
+
+  -- another sum that is no offer below it
+  pub pass_other : offer_below (kept.most + 1) (offers x s) ≡ None → sum_of x s ≢ kept.most + 1 → Passed x (s + 1) kept
+  pass_other o apart =
+      record {
+        least = first_pass x s (kept.most + 1) kept.from known.least o;
+        fits = known.fits;
+        near = omega (arith, known.near);
+        only = alone_pass x s (kept.most + 1) kept.from kept.last known.only o apart;
+      }
+
+  -- a lesser offer
+  pub pass_less : (v m : ℕ) → offer_below (kept.most + 1) (offers x s) ≡ Some v → m ≡ v - 1 → Passed x (s + 1) (record { most = m; from = s; last = kept.last })
+  pass_less v m o e =
+      let taken = first_take x s (kept.most + 1) kept.from known.least v o in
+      let more : v ≡ m + 1 = omega (arith, below_positive x (kept.most + 1) s v o) in
+      record {
+        least = taken.0 ∙ ap (λ u. winner_of u s) more;
+        fits = omega (arith, taken.1);
+        near = omega (arith, known.near);
+        only = λ r v after beyond below q. absurd (omega arith);
+      }

@@ -2,3 +2,4 @@ pub mod Marks
 pub mod Events
 pub mod Loop
 pub mod Whole
+pub mod Finished

@@ -5,9 +5,10 @@ use Rattle.network.specs.Network.{Net}
 use Rattle.memory.specs.Layout.{view}
 use Rattle.records.specs.Records.{record_length, body_of}
 use Rattle.records.specs.Running.{Running, read_events}
+use Rattle.records.specs.Stopped.{stop_number, stop_place}
 use Rattle.records.specs.declared.Event.{Event}
 use Rattle.records.specs.declared.Event.TheVariants.{Round}
-use Rattle.running.specs.declared.Finish.{Finish}
+use Rattle.running.specs.declared.Run.{Run}
 
 -- the body of a round whose record lies at `at`
 abbrev pub marks_at : ℕ → List ℕ → List ℕ
@@ -21,9 +22,6 @@ Inside e at s = e ≡ Round → at + record_length 5 ≤ length s
 abbrev pub events_from : List ℕ → Net → ℕ → Running
 events_from s x at = read_events (length s) x 0 at (drop at s)
 
--- the events end with the answer f and the words ys
-pub record Finishes (o : Running) (f : Finish) (ys : List ℕ) : Type 0 where
-  pub number : f.number ≡ o.number
-  pub place : f.place ≡ o.place
-  pub rounds : f.rounds ≡ o.rounds
-  pub net : view ys ≡ o.net
+-- the run whose events ended with the answer e and the words ys
+unfoldable pub ran : Run → List ℕ → Running
+ran e ys = record { number = stop_number e.stop; place = stop_place e.stop; rounds = e.rounds; net = view ys }

@@ -1,118 +1,137 @@
-// The text that the program `routes` prints, written into an output that the caller lends.
+// The text that the program `routes` prints.
 //
-// Each part of the text is written after those before it. Contracts go by `text_of` (specs/Text.antt) and hold for any input.
-// The public function has no precondition: the output has room for every text. What a writer asks for and uses at most is a number of bytes that goes
-// by the sizes of numbers alone, so that it does not matter whether the words that it reads are a network within limits.
+// Each part of the text is pushed after those before it. Contracts go by `text_of` (specs/Text.antt) and hold for any input.
+// The public function has no precondition: a text has room for every one. What a writer asks for and uses at most is a number of bytes that goes by the
+// sizes of numbers alone, so that it does not matter whether the words that it reads are a network within limits.
 #![tactic(auto)]
 
-ghost use Rattle.std.specs.Prelude.{◌++◌, ◌+◌, ◌≤◌, ◌<◌, length};
+ghost use Rattle.std.specs.Prelude.{◌≡◌, ◌++◌, ◌+◌, ◌*◌, ◌≤◌, ◌<◌, length};
 ghost use Rattle.memory.specs.Layout.{view};
+ghost use Rattle.network.specs.Answered.{fault_number};
 ghost use Rattle.records.specs.Image.{each};
-ghost use Rattle.filling.specs.Filling.{Wrote};
-ghost use Rattle.text.specs.Text.{field, max_input};
-ghost use Rattle.text.specs.Filled.{Filled};
+ghost use Rattle.text.specs.Text.{max_input, field, stop_line};
 ghost use Rattle.table.specs.Text.{fields, line, table_text, text_of};
 
+use arrayvec::ArrayVec;
 use memory::{Network, RowRead};
+use network::Route;
+use records::Stop;
 
-// The bytes of an output with room for every text.
+// The bytes of a text with room for every one.
 pub const MAX_TEXT: usize = 4096;
+
+pub type Text = ArrayVec<u8, MAX_TEXT>;
 
 // ---- a line of the table
 
 // Label, predecessor and hops of a relay with a route.
-fn put_route(label: u32, predecessor: u32, hops: u32, out: &mut [u8], at: usize) -> usize
-    requires { at + 63 ≤ length out.old }
-    ensures { Filled 63 (field label ++ (field predecessor ++ field hops)) out.old out.new at result }
+#[tactic(auto, using(text::proofs::Adding::pushes), unfolding(text::specs::Text::field))]
+fn push_route(text: &mut Text, route: Route, hops: u32)
+    requires { length text.old.items + 63 ≤ 4096 }
+    ensures items { text.new.items ≡ text.old.items ++ (field route.label ++ (field route.predecessor ++ field hops)) }
+    ensures most { length text.new.items ≤ length text.old.items + 63 }
 {
-    let from = text::put_number(b" ", label as usize, out, at);
-    let last = text::put_number(b" ", predecessor as usize, out, from);
-    text::put_number(b" ", hops as usize, out, last)
+    text::push_number(text, b" ", route.label as usize);
+    text::push_number(text, b" ", route.predecessor as usize);
+    text::push_number(text, b" ", hops as usize);
 }
 
 // Label, predecessor and hops of a node.
-fn put_fields(net: &Network, node: u32, out: &mut [u8], at: usize) -> usize
+#[tactic(auto, using(text::proofs::Adding::pushes))]
+fn push_fields(text: &mut Text, net: &Network, node: u32)
     requires node_bound { node < (view net.now).nodes }
-    requires room { at + 63 ≤ length out.old }
-    ensures { Filled 63 (fields ((view net.now).row node)) out.old out.new at result }
+    requires room { length text.old.items + 63 ≤ 4096 }
+    ensures items { text.new.items ≡ text.old.items ++ fields ((view net.now).row node) }
+    ensures most { length text.new.items ≤ length text.old.items + 63 }
 {
-    let row = memory::row(net, node);
+    let Ok(row) = memory::row(net, node) else {
+        return;
+    };
     match row {
-        RowRead::Route {
-            label,
-            predecessor,
-            list: _,
-            hops,
-        } => put_route(label, predecessor, hops, out, at),
-        RowRead::Origin { list: _, hops } => text::put_number(b" 0 - ", hops as usize, out, at),
-        RowRead::NoRoute => text::put_text(b" - - -", out, at),
-        RowRead::Refused => 0,
+        RowRead::NoRoute => text::push_text(text, b" - - -"),
+        RowRead::Origin { list: _, hops } => text::push_number(text, b" 0 - ", hops as usize),
+        RowRead::Relay { route, hops } => push_route(text, route, hops),
     }
 }
 
 // The line of a node.
-fn put_line(net: &Network, node: u32, out: &mut [u8], at: usize) -> usize
+#[tactic(auto, using(text::proofs::Adding::pushes), unfolding(crate::specs::Text::line))]
+fn push_line(text: &mut Text, net: &Network, node: u32)
     requires node_bound { node < (view net.now).nodes }
-    requires room { at + 84 ≤ length out.old }
-    ensures { Filled 84 (line (view net.now) node) out.old out.new at result }
+    requires room { length text.old.items + 84 ≤ 4096 }
+    ensures items { text.new.items ≡ text.old.items ++ line (view net.now) node }
+    ensures most { length text.new.items ≤ length text.old.items + 84 }
 {
-    let next = text::put_number(b"", node as usize, out, at);
-    let end = put_fields(net, node, out, next);
-    text::put_text(b"\n", out, end)
+    text::push_number(text, b"", node as usize);
+    push_fields(text, net, node);
+    text::push_text(text, b"\n");
 }
 
 // ---- the table
 
 // The lines of the nodes.
-fn put_lines(net: &Network, out: &mut [u8], start: usize) -> usize
-    requires { start + 2688 ≤ length out.old }
-    ensures { Filled 2688 (each (line (view net.now)) 0 (view net.now).nodes) out.old out.new start result }
+fn push_lines(text: &mut Text, net: &Network)
+    requires { length text.old.items + 2688 ≤ 4096 }
+    ensures items { text.new.items ≡ text.old.items ++ each (line (view net.now)) 0 (view net.now).nodes }
+    ensures most { length text.new.items ≤ length text.old.items + 2688 }
 {
-    let n = memory::nodes(net);
-    let mut at = start;
-    let mut node: u32 = 0;
-    while node < n {
-        at = put_line(net, node, out, at);
-        node = node + 1;
+    for node in 0..memory::nodes(net) {
+        push_line(text, net, node);
     }
-    at
 }
 
 // The header, the lines of the nodes and the accepted rounds.
-fn put_table(net: &Network, rounds: usize, out: &mut [u8], at: usize) -> usize
-    requires { at + 2736 ≤ length out.old }
-    ensures { Filled 2736 (table_text (view net.now) rounds) out.old out.new at result }
+#[tactic(auto, using(text::proofs::Adding::pushes), unfolding(crate::specs::Text::header, crate::specs::Text::rounds_line, crate::specs::Text::table_text, text::specs::Text::field))]
+fn push_table(text: &mut Text, net: &Network, rounds: usize)
+    requires { length text.old.items + 2736 ≤ 4096 }
+    ensures items { text.new.items ≡ text.old.items ++ table_text (view net.now) rounds }
+    ensures most { length text.new.items ≤ length text.old.items + 2736 }
 {
-    let start = text::put_text(b"node cost from hops\n", out, at);
-    let end = put_lines(net, out, start);
-    let last = text::put_number(b"rounds ", rounds, out, end);
-    text::put_text(b"\n", out, last)
+    text::push_text(text, b"node cost from hops\n");
+    push_lines(text, net);
+    text::push_number(text, b"rounds ", rounds);
+    text::push_text(text, b"\n");
 }
 
 // ---- the whole text
 
-// The text of a run.
-fn put_run(input: &[u8], out: &mut [u8]) -> usize
-    requires input_len_bound { length input.now ≤ max_input }
-    requires room { 2789 ≤ length out.old }
-    ensures { Wrote (text_of input.now) out.old out.new result }
+// The line of a refusal.
+#[tactic(auto, using(text::proofs::Adding::pushes, text::proofs::Stopping::stop_most))]
+fn push_stop(text: &mut Text, stop: Stop)
+    requires { length text.old.items + 53 ≤ 4096 }
+    ensures { text.new.items ≡ text.old.items ++ stop_line (fault_number stop.fault) stop.place }
 {
-    let mut net = [0u32; memory::WORDS];
-    let run = running::run_into(&mut net, input);
-    if run.opened {
-        let end = put_table(&net, run.rounds, out, 0);
-        return text::put_stop(run.number, run.place, out, end);
-    }
-    text::put_stop(run.number, run.place, out, 0)
+    text::push_stop(text, u8::from(stop.fault), stop.place);
 }
 
-// Writes the text that `routes` prints for an input, and answers its length.
-pub fn write_text(input: &[u8], out: &mut [u8; MAX_TEXT]) -> usize
-    ensures { Wrote (text_of input.now) out.old out.new result }
+// The text of a run.
+fn run_text(input: &[u8]) -> Text
+    requires { length input.now ≤ max_input }
+    ensures { result.items ≡ text_of input.now }
 {
-    let all: &mut [u8] = out;
-    if text::MAX_INPUT < input.len() {
-        return filling::copy(b"too long\n", all);
+    let mut text = Text::new();
+    let mut net = [0u32; memory::WORDS];
+    match running::run_into(&mut net, input) {
+        Ok(run) => {
+            push_table(&mut text, &net, run.rounds);
+            if let Some(stop) = run.stop {
+                push_stop(&mut text, stop);
+            }
+        }
+        Err(stop) => push_stop(&mut text, stop),
     }
-    put_run(input, all)
+    text
+}
+
+// The text that `routes` prints for an input.
+#[tactic(auto, using(text::proofs::Adding::pushes, crate::proofs::Texts::text_long), unfolding(text::specs::Text::too_long, text::specs::Text::max_input))]
+pub fn write_text(input: &[u8]) -> Text
+    ensures { result.items ≡ text_of input.now }
+{
+    if text::MAX_INPUT < input.len() {
+        let mut text = Text::new();
+        text::push_text(&mut text, b"too long\n");
+        return text;
+    }
+    run_text(input)
 }

@@ -1,14 +1,12 @@
 -- The line of a refusal: its parts, and how long it is at most.
 -- Assumes nothing.
-use mathlib.Core.Path.{◌≡◌, ap}
-use mathlib.Core.List.{[], ◌∷◌, ◌++◌}
-use mathlib.Core.Logic.{⊎_elim}
+use mathlib.Core.Path.{◌≡◌}
+use mathlib.Core.List.{[]}
 use Prim.Native.Nat.{ℕ, ◌^◌, ◌<◌, ◌≤◌}
 use native.Mathlib.Omega.{arith}
 use lib.ListN.{length, length-append}
 use borrow.Author.Tests.{eq-eqb, ne_eqb}
-use Rattle.ancestors.proofs.Cases.{le_or_lt}
-use Rattle.text.specs.Text.{decimal, field, newline, stop_line, last_line}
+use Rattle.text.specs.Text.{field, stop_line, last_line}
 use Rattle.text.proofs.Digits.{long_digits}
 
 -- no refusal
@@ -24,11 +22,8 @@ last_stop number place h = rw (ne_eqb number 0 h)
 -- the line of numbers of 64 bits has at most 53 bytes
 pub stop_most : (number place : ℕ) → number < 2 ^ 64 → place < 2 ^ 64 → length (stop_line number place) ≤ 53
 unfolding stop_line field
-stop_most number place h k =
-    omega
-    (arith, long_digits number h, long_digits place k, length-append (decimal place) newline, length-append (decimal number) (32 ∷ 97 ∷ 116 ∷ (field place ++ newline)))
+stop_most number place h k = grind (arith, length-append, long_digits)
 
 pub last_most : (number place : ℕ) → number < 2 ^ 64 → place < 2 ^ 64 → length (last_line number place) ≤ 53
-last_most number place h k =
-    ⊎_elim (λ some. omega (arith, ap length (last_stop number place (λ z. omega arith)), stop_most number place h k))
-    (λ none. omega (arith, ap length (last_none number place (omega arith)))) (le_or_lt 1 number)
+unfolding last_line
+last_most number place h k = grind (arith, stop_most)

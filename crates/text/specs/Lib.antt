@@ -1,3 +1,2 @@
 pub mod Text
-pub mod Puts
-pub mod Filled
+pub mod Adds

@@ -1,56 +1,58 @@
-// Text and numbers written into an output from a place on.
+// Text and numbers, pushed onto a text of fixed room.
 //
-// Each writer answers the place after its bytes. Where there is no room for all of them, it writes none and answers the place that it was given.
-// No writer has a precondition: the place may lie past the end of the output.
+// Each writer pushes all of its bytes, or none where they have no room. No writer has a precondition.
 #![tactic(auto)]
 
-ghost use Rattle.std.specs.Prelude.{◌++◌};
-ghost use Rattle.text.specs.Text.{decimal, last_line};
-ghost use Rattle.text.specs.Puts.{Puts};
+ghost use Rattle.std.specs.Prelude.{◌≡◌, ◌++◌};
+ghost use Rattle.text.specs.Text.{decimal, stop_line, last_line};
+ghost use Rattle.text.specs.Adds.{added};
+
+use arrayvec::ArrayVec;
+use itoa::Buffer;
 
 // The bytes of the longest run that a program takes.
 pub const MAX_INPUT: usize = 65536;
 
 // Bytes.
-pub fn put_text(text: &[u8], out: &mut [u8], at: usize) -> usize
-    ensures { Puts text.now out.old out.new at result }
+#[tactic(auto, unfolding(crate::specs::Adds::added))]
+pub fn push_text<const N: usize>(text: &mut ArrayVec<u8, N>, bytes: &[u8])
+    ensures { text.new.items ≡ added N bytes.now text.old.items }
 {
-    if out.len() < at {
-        return at;
-    }
-    at + filling::copy(text, &mut out[at..])
+    // An error says that there is no room, and then the text is as it stood.
+    let _added = text.try_extend_from_slice(bytes);
 }
 
 // Bytes and a number in decimal.
-pub fn put_number(text: &[u8], n: usize, out: &mut [u8], at: usize) -> usize
-    ensures { Puts (text.now ++ decimal n) out.old out.new at result }
+#[tactic(auto, using(crate::proofs::Adding::pushes, crate::proofs::Digits::digits_decimal), unfolding(crate::specs::Adds::added))]
+pub fn push_number<const N: usize>(text: &mut ArrayVec<u8, N>, before: &[u8], n: usize)
+    ensures { text.new.items ≡ added N (before.now ++ decimal n) text.old.items }
 {
-    let mut digits = [0u8; 20];
-    let k = io::decimal(n as u64, &mut digits);
-    if out.len() < at {
-        return at;
+    let mut buffer = Buffer::new();
+    let digits = buffer.format(n).as_bytes();
+    if before.len() + digits.len() <= text.remaining_capacity() {
+        push_text(text, before);
+        push_text(text, digits);
     }
-    let room = out.len() - at;
-    if room < text.len() {
-        return at;
-    }
-    if room - text.len() < k {
-        return at;
-    }
-    let next = put_text(text, out, at);
-    put_text(&digits[..k], out, next)
+}
+
+// The line of a refusal, number and place.
+#[tactic(auto, using(crate::proofs::Adding::pushes), unfolding(crate::specs::Text::stop_line, crate::specs::Text::field))]
+pub fn push_stop<const N: usize>(text: &mut ArrayVec<u8, N>, number: u8, place: usize)
+    ensures { text.new.items ≡ added N (stop_line number place) text.old.items }
+{
+    let mut line: ArrayVec<u8, 64> = ArrayVec::new();
+    push_number(&mut line, b"stopped ", usize::from(number));
+    push_number(&mut line, b" at ", place);
+    push_text(&mut line, b"\n");
+    push_text(text, &line);
 }
 
 // The line of a refusal, number and place; nothing where the number is 0.
-pub fn put_stop(number: u8, place: usize, out: &mut [u8], at: usize) -> usize
-    ensures { Puts (last_line number place) out.old out.new at result }
+#[tactic(auto, unfolding(crate::specs::Text::last_line, crate::specs::Adds::added))]
+pub fn push_last<const N: usize>(text: &mut ArrayVec<u8, N>, number: u8, place: usize)
+    ensures { text.new.items ≡ added N (last_line number place) text.old.items }
 {
-    if number == 0 {
-        return at;
+    if number != 0 {
+        push_stop(text, number, place);
     }
-    let mut line = [0u8; 64];
-    let next = put_number(b"stopped ", number as usize, &mut line, 0);
-    let end = put_number(b" at ", place, &mut line, next);
-    let last = put_text(b"\n", &mut line, end);
-    put_text(&line[..last], out, at)
 }

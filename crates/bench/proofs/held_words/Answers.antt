@@ -1,19 +1,15 @@
--- `bench::held_words` meets its contract: each case in three words.
+-- `bench::held_words` meets its contract: number and report in three words.
 -- Assumes nothing.
 use mathlib.Core.Path.{sym, ap, ◌∙◌}
+use mathlib.Core.List.{[], ◌∷◌}
 use Rattle.memory.specs.Answers.{held_means}
-use Rattle.memory.proofs.Laws.{refused_report_means, empty_means, report_means}
+use Rattle.memory.proofs.Laws.{refused_report_means}
 use Rattle.bench.specs.Handed.{held_words_of, report_words}
 use Rattle.bench.proofs.held_words.Goals as goal
 
-pub returns-in-Refused : goal.returns-in-Refused
-unfolding held_words_of report_words
-returns-in-Refused c = sym (ap held_words_of (ap held_means c.in-Refused.is ∙ refused_report_means))
+pub returns-in-Ok : goal.returns-in-Ok
+returns-in-Ok c = c.report_words.ensures ∙ sym (ap (λ r. held_words_of (held_means r)) c.in-Ok.is)
 
-pub returns-in-Empty : goal.returns-in-Empty
+pub returns-in-Err : goal.returns-in-Err
 unfolding held_words_of report_words
-returns-in-Empty c = sym (ap held_words_of (ap held_means c.in-Empty.is ∙ empty_means))
-
-pub returns-in-Report : goal.returns-in-Report
-unfolding held_words_of report_words
-returns-in-Report c = sym (ap held_words_of (ap held_means c.in-Report.is ∙ report_means _ _))
+returns-in-Err c = (λ j. c.refusal.ensures j ∷ 0 ∷ 0 ∷ []) ∙ sym (ap held_words_of (ap held_means c.in-Err.is ∙ refused_report_means _))

@@ -1,24 +1,15 @@
--- `command::read_said` meets its contract: whether the messages were refused decides.
+-- `command::read_said` meets its contract: the number decides.
 -- Assumes nothing.
-use native.Mathlib.Omega.{arith}
-use Rattle.command.proofs.Texts.{says_error, says_output, read_stops, read_prints, read_most}
+use mathlib.Core.Path.{sym, ap, ◌∙◌}
+use Rattle.command.specs.Saying.{on_output}
+use Rattle.command.proofs.Texts.{read_stops, read_prints, said_err}
 use Rattle.command.proofs.read_said.Goals as goal
 
-pub returns-then-read-ne0 : goal.returns-then-read-ne0
-returns-then-read-ne0 c =
-    let read = c.read_messages-read in
-    let a = c.args in
-    says_error (read_stops a.base a.n a.input.now read.result read.ensures c.if-read-ne0.true) c.put_refused.ensures c.said_of.ensures
+pub returns-in_err-metrics-clause-line : goal.returns-in_err-metrics-clause-line
+returns-in_err-metrics-clause-line c =
+    said_err _ c.from_residual.result _ c.from_residual.ensures.1 (read_stops c.args.base c.args.n c.args.input.now _ c.in_err-metrics.ensures.number)
 
-pub put_metrics-requires : goal.put_metrics-requires
-put_metrics-requires c =
-    let read = c.read_messages-read in
-    let a = c.args in
-    omega (arith, read_most a.base a.n a.input.now read.result read.ensures)
-
-pub returns : goal.returns
-returns c =
-    let read = c.read_messages-read in
-    let a = c.args in
-    says_output (read_prints a.base a.n a.input.now read.result read.ensures c.if-read-ne0.false) c.put_metrics.ensures
-    c.said_of-2.ensures
+pub returns-clause-output : goal.returns-clause-output
+returns-clause-output c =
+    read_prints c.args.base c.args.n c.args.input.now c.in_ok-metrics.ensures.number (c.deref.ensures.0 ∙ c.in_ok-metrics.ensures.metrics)
+    ∙ ap on_output (sym c.metric_lines.ensures)

@@ -1,26 +1,34 @@
--- `command::run_said` meets its contract: whether the run was refused decides.
+-- `command::run_said` meets its contract: how the run ended decides.
 -- Assumes nothing.
+use mathlib.Core.Path.{sym, ap, ◌∙◌}
 use native.Mathlib.Omega.{arith}
-use Rattle.filling.proofs.Parts.{added_front}
-use Rattle.memory.specs.Layout.{view}
-use Rattle.response.proofs.Sizes.{largest_messages}
-use Rattle.response.proofs.Callers.{wrote_messages}
-use Rattle.text.proofs.Putting.{puts_filled}
-use Rattle.text.proofs.Stopping.{last_most}
-use Rattle.command.proofs.Texts.{says_error, says_output, run_stops, run_writes, run_count}
+use Rattle.network.specs.Network.{Net}
+use Rattle.running.proofs.Finished.{refused, stopped, reached}
+use Rattle.response.specs.Messages.{row_messages, count_fault}
+use Rattle.command.specs.Saying.{on_output}
+use Rattle.command.proofs.Texts.{run_stops, run_writes, run_count, said_err}
 use Rattle.command.proofs.run_said.Goals as goal
 
-pub returns-then-run-ne0 : goal.returns-then-run-ne0
-returns-then-run-ne0 c =
-    let run = c.run_into-run in
-    let line = puts_filled 53 (omega arith) (last_most run.result.number run.result.place (omega arith) (omega arith)) c.put_stop.ensures in
-    says_error (run_stops c.args.base c.args.input.now run.result _ run.ensures c.if-run-ne0.true) (added_front line.added) c.said_of.ensures
+pub returns-in_err-run_into-clause-line : goal.returns-in_err-run_into-clause-line
+returns-in_err-run_into-clause-line c =
+    let s = c.args.input.now in
+    said_err _ c.from_residual.result _ c.from_residual.ensures.1
+    (run_stops c.args.base s _ (refused s _ _ c.in_err-run_into.ensures))
 
-pub returns : goal.returns
-returns c =
-    let run = c.run_into-run in
-    let input = c.args.input.now in
-    let count = run_count c.args.base input run.result run.new.net run.ensures (λ i. omega (arith, c.type_inv.input i)) in
-    says_output (run_writes c.args.base input run.result run.new.net run.ensures c.if-run-ne0.false)
-    (wrote_messages c.args.base (view run.new.net) c.args.out.now c.write_messages-written.ensures c.requires.base_sound count (omega (arith, largest_messages)))
-    c.said_of-2.ensures
+pub returns-in_err-finished-clause-line : goal.returns-in_err-finished-clause-line
+returns-in_err-finished-clause-line c =
+    let s = c.args.input.now in
+    said_err _ c.from_residual-in_err-finished.result _ c.from_residual-in_err-finished.ensures.1
+    (run_stops c.args.base s _ (stopped s _ _ c.in_ok-run_into.ensures _ c.in_err-finished.ensures))
+
+pub messages_of-requires : goal.messages_of-requires
+messages_of-requires c = record {
+  base_right = c.requires;
+  count_right = ap (λ (x : Net). count_fault x.nodes) c.run_into.ensures.net ∙ run_count c.args.input.now (λ i. omega (arith, c.type_inv.input i));
+}
+
+pub returns-clause-output : goal.returns-clause-output
+returns-clause-output c =
+    let s = c.args.input.now in
+    run_writes c.args.base s (reached s _ _ c.in_ok-run_into.ensures _ c.in_ok-finished.ensures)
+    ∙ rw (← c.run_into.ensures.net) (ap on_output (sym c.messages_of.ensures))

@@ -1,33 +1,27 @@
--- `command::write_said` meets its contract: the base, then the length of the input decide.
+-- `command::write_said` meets its contract: the base, and then the length of the input.
 -- Assumes nothing.
 use native.Mathlib.Omega.{arith}
 use mathlib.Core.Path.{sym, ◌∙◌}
-use Rattle.filling.proofs.Copying.{wrote_all}
-use Rattle.text.specs.Text.{max_input, too_long}
-use Rattle.command.proofs.Texts.{says_error, says_as, write_refused, write_long, write_run}
+use Rattle.text.specs.Text.{max_input}
+use Rattle.command.specs.Saying.{refusal_text}
+use Rattle.command.proofs.Texts.{write_refused, write_long, write_run}
 use Rattle.command.proofs.write_said.Goals as goal
 
-pub returns-then-base_refused : goal.returns-then-base_refused
-returns-then-base_refused c =
-    let a = c.args in
-    says_error (write_refused a.base a.input.now (sym c.base_refused.ensures ∙ c.if-base_refused.true)) c.put_refused.ensures
-    c.said_of.ensures
+pub returns-then-base_refused-clause-line : goal.returns-then-base_refused-clause-line
+unfolding refusal_text
+returns-then-base_refused-clause-line c = write_refused c.args.base c.args.input.now (sym c.base_refused.ensures ∙ c.if-base_refused.true)
 
-pub returns-then-input-gt-MAX_INPUT : goal.returns-then-input-gt-MAX_INPUT
-unfolding max_input too_long
-returns-then-input-gt-MAX_INPUT c =
-    let a = c.args in
-    says_error (write_long a.base a.input.now (sym c.base_refused.ensures ∙ c.if-base_refused.false) c.if-input-gt-MAX_INPUT.true)
-    (wrote_all _ a.out.now (omega arith) c.copy.ensures) c.said_of-then-input-gt-MAX_INPUT.ensures
+pub returns-then-input-gt-MAX_INPUT-clause-line : goal.returns-then-input-gt-MAX_INPUT-clause-line
+unfolding refusal_text max_input
+returns-then-input-gt-MAX_INPUT-clause-line c =
+    write_long c.args.base c.args.input.now (sym c.base_refused.ensures ∙ c.if-base_refused.false) (omega arith)
 
-pub run_said-requires : goal.run_said-requires
-run_said-requires c = record {
-  base_sound = sym c.base_refused.ensures ∙ c.if-base_refused.false;
-  room = omega arith;
-}
-
-pub returns : goal.returns
+pub returns-clause-output : goal.returns-clause-output
 unfolding max_input
-returns c =
-    let a = c.args in
-    says_as (write_run a.base a.input.now (sym c.base_refused.ensures ∙ c.if-base_refused.false) c.if-input-gt-MAX_INPUT.false) c.run_said.ensures
+returns-clause-output c =
+    rw (write_run c.args.base c.args.input.now (sym c.base_refused.ensures ∙ c.if-base_refused.false) (omega arith)) c.run_said.ensures.output
+
+pub returns-clause-line : goal.returns-clause-line
+unfolding max_input
+returns-clause-line c =
+    rw (write_run c.args.base c.args.input.now (sym c.base_refused.ensures ∙ c.if-base_refused.false) (omega arith)) c.run_said.ensures.line

@@ -1,48 +1,64 @@
 -- `messages::read_messages` meets its contract: what is given, then the length, then the fields.
 -- Assumes nothing.
 use native.Mathlib.Omega.{arith}
-use borrow.Author.Tests.{not-true, not-false}
-use mathlib.Core.Path.{refl, sym, subst, ◌∙◌}
-use Rattle.response.specs.Reading.{Reading, Reads}
-use Rattle.response.proofs.Answering.{base_says, count_says, given_says, read_given, read_wrong, read_right, wrong_length, stored_places}
+use mathlib.Core.Path.{refl, sym, ap, ◌∙◌}
+use Prim.Native.Nat.{◌<◌}
+use lib.ListN.{length}
+use Rattle.network.specs.Answered.{fault_number}
+use Rattle.response.specs.Messages.{message_count_of}
+use Rattle.response.proofs.Sizes.{before_here}
+use Rattle.network.proofs.Answered.{fault_some}
+use Rattle.response.specs.Reading.{Reading}
+use Rattle.response.proofs.Answering.{read_given}
+use Rattle.records.proofs.Each.{each_zero}
+use Rattle.messages.proofs.Reading.{some_zero, exit_number, metrics_size, messages_next, metrics_next, wrong_size, wrong_message, number_read, metrics_read}
 use Rattle.messages.proofs.read_messages.Goals as goal
 
-pub returns-then-given-ne0 : goal.returns-then-given-ne0
-returns-then-given-ne0 c =
-    let given = c.given_number-given in
-    let a = c.args in
-    subst (λ (o : Reading). Reads o c.refused.result) (sym (read_given a.base a.n a.bytes.now given.result given.ensures c.if-given-ne0.true)) c.refused.ensures
+pub returns-in_err-given-clause-number : goal.returns-in_err-given-clause-number
+returns-in_err-given-clause-number c =
+    let f = c.in_err-given.field-0.0 in
+    exit_number c.from_residual.result f c.from_residual.ensures.1 ∙
+    sym (ap (λ (o : Reading). o.number) (read_given c.args.base c.args.n c.args.bytes.now _ c.in_err-given.ensures.number (fault_some f)))
 
-pub returns-then-bytes-messages_length : goal.returns-then-bytes-messages_length
-returns-then-bytes-messages_length c =
-    let a = c.args in
-    let given = sym c.given_number-given.ensures ∙ c.if-given-ne0.false in
-    subst (λ (o : Reading). Reads o c.refused-then-bytes-messages_length.result)
-    (sym (read_wrong a.base a.n a.bytes.now given (wrong_length a.base a.n a.bytes.now (λ e. c.if-bytes-messages_length.true (e ∙ sym c.messages_length.ensures)))))
-    c.refused-then-bytes-messages_length.ensures
+pub returns-then-bytes-messages_length-clause-number : goal.returns-then-bytes-messages_length-clause-number
+returns-then-bytes-messages_length-clause-number c =
+    let g = c.in_ok-given.ensures in
+    wrong_size c.args.base c.args.n c.args.bytes.now g.given g.number c.messages_length.ensures c.if-bytes-messages_length.true
 
-pub read_buffer-right-requires : goal.read_buffer-right-requires
-read_buffer-right-requires c =
-    let given = given_says c.args.base c.args.n 0 (sym c.given_number-given.ensures ∙ c.if-given-ne0.false) in
+pub loop-k-init : goal.loop-k-init
+loop-k-init c = record { right = some_zero _; read = c.new-metrics.ensures ∙ sym (each_zero _ 0) }
+
+pub read_message-requires-clause-before : goal.read_message-requires-clause-before
+read_message-requires-clause-before c =
+    let m = c.in_ok-given.given.nodes in
+    let h : c.loop-k.k < message_count_of m = omega (arith, c.message_count-k-end.ensures) in
+    ap length c.loop-k.invariant.read ∙ metrics_size m c.args.bytes.now c.loop-k.k ∙ before_here m c.loop-k.k h
+
+pub returns-in_err-read_message-clause-number : goal.returns-in_err-read_message-clause-number
+returns-in_err-read_message-clause-number c =
+    let g = c.in_ok-given.ensures in
+    let f = c.in_err-read_message.field-0.0 in
+    exit_number c.from_residual-in_err-read_message.result f c.from_residual-in_err-read_message.ensures.1 ∙
+    wrong_message c.args.base c.args.n c.args.bytes.now g.given g.number c.messages_length.ensures c.if-bytes-messages_length.false c.loop-k.k (fault_number f)
+    (omega (arith, c.message_count-k-end.ensures)) (fault_some f) c.in_err-read_message.ensures.number
+
+pub loop-k-preserved : goal.loop-k-preserved
+loop-k-preserved c =
+    let l = c.loop-k in
+    let e = c.in_ok-read_message.ensures in
     record {
-      sound = omega (arith, base_says c.args.base given.0, c.ranges.base);
-      n_le_max_nodes = (count_says c.args.n given.1).1;
-      bytes_len = c.if-bytes-messages_length.false ∙ c.messages_length.ensures;
-      metrics_len = refl;
+      right = messages_next _ c.args.bytes.now l.k _ e.number refl l.invariant.right;
+      read = metrics_next _ c.args.bytes.now l.k e.metrics l.invariant.read;
     }
 
-pub returns-then-not-right : goal.returns-then-not-right
-returns-then-not-right c =
-    let a = c.args in
-    let given = sym c.given_number-given.ensures ∙ c.if-given-ne0.false in
-    let fault = not-false _ (sym c.read_buffer-right.ensures.right ∙ c.if-not-right.true) in
-    subst (λ (o : Reading). Reads o c.refused-then-not-right.result) (sym (read_wrong a.base a.n a.bytes.now given fault)) c.refused-then-not-right.ensures
+pub returns-clause-number : goal.returns-clause-number
+returns-clause-number c =
+    let g = c.in_ok-given.ensures in
+    number_read c.args.base c.args.n c.args.bytes.now g.given g.number c.messages_length.ensures c.if-bytes-messages_length.false
+    (omega (arith, c.message_count-k-end.ensures)) c.loop-k.invariant.right
 
-pub returns : goal.returns
-returns c =
-    let a = c.args in
-    let given = sym c.given_number-given.ensures ∙ c.if-given-ne0.false in
-    let yes = c.if-not-right.false in
-    let right = not-true _ (sym c.read_buffer-right.ensures.right ∙ yes) in
-    let stored = stored_places a.n (count_says a.n (given_says a.base a.n 0 given).1).1 (c.read_buffer-right.ensures.left yes) in
-    rw (read_right a.base a.n a.bytes.now given right) (record { number = refl; nodes = stored.0; metrics = stored.1 })
+pub returns-clause-metrics : goal.returns-clause-metrics
+returns-clause-metrics c =
+    let g = c.in_ok-given.ensures in
+    metrics_read c.args.base c.args.n c.args.bytes.now g.given g.number c.messages_length.ensures c.if-bytes-messages_length.false
+    (omega (arith, c.message_count-k-end.ensures)) c.loop-k.invariant.right c.loop-k.invariant.read

@@ -1,40 +1,19 @@
 -- `route::route` meets its contract: each refusal in its order, and the route copied.
 -- Assumes nothing.
-use native.Mathlib.Omega.{arith}
-use mathlib.Core.Path.{refl, sym, ◌∙◌}
-use Rattle.memory.specs.Layout.{view}
-use Rattle.route.proofs.Answering.{answer_start, answer_nine, answer_six, answer_route}
+use Rattle.std.proofs.lemmas.Result.{err_from_is_err_and}
+use Rattle.route.proofs.Answering.{answer_start, answer_broken, answer_room, answer_route}
 use Rattle.route.proofs.route.Goals as goal
 
-pub returns-then-first-ne0 : goal.returns-then-first-ne0
-returns-then-first-ne0 c =
-    let a = c.args in
-    answer_start (view a.net.now) a.node a.out.now _ c.start_number-first.ensures c.if-first-ne0.true
+pub returns-in_err-check_start : goal.returns-in_err-check_start
+returns-in_err-check_start c =
+    let p = err_from_is_err_and c.from_residual.result c.from_residual.ensures.1 in
+    rw (p.1, p.2) (answer_start _ _ c.args.out.now _ c.in_err-check_start.ensures)
 
-pub returns-then-k-eq0 : goal.returns-then-k-eq0
-returns-then-k-eq0 c =
-    let a = c.args in
-    let e = sym c.start_number-first.ensures ∙ c.if-first-ne0.false in
-    let b = c.walk_back-k in
-    answer_nine (view a.net.now) a.node a.out.now e b.new.bytes b.result b.ensures c.if-k-eq0.true
+pub returns-in_default : goal.returns-in_default
+returns-in_default c = answer_broken _ _ c.args.out.now c.in_ok-check_start.ensures c.in_default.ensures
 
-pub returns-then-out-k : goal.returns-then-out-k
-returns-then-out-k c =
-    let a = c.args in
-    let e = sym c.start_number-first.ensures ∙ c.if-first-ne0.false in
-    let b = c.walk_back-k in
-    answer_six (view a.net.now) a.node a.out.now e b.new.bytes b.result b.ensures c.if-k-eq0.false b.auto.bytes c.if-out-k.true
-
-pub slice_bounds-copy-end : goal.slice_bounds-copy-end
-slice_bounds-copy-end c = omega (arith, c.walk_back-k.auto.bytes)
-
-pub shape_of-out : goal.shape_of-out
-shape_of-out c = c.copy.auto.out
+pub returns-then-out-nodes : goal.returns-then-out-nodes
+returns-then-out-nodes c = answer_room _ _ c.args.out.now c.in_ok-check_start.ensures _ c.in-Some.ensures c.if-out-nodes.true
 
 pub returns : goal.returns
-returns c =
-    let a = c.args in
-    let e = sym c.start_number-first.ensures ∙ c.if-first-ne0.false in
-    let b = c.walk_back-k in
-    answer_route (view a.net.now) a.node a.out.now e b.new.bytes b.result b.ensures c.if-k-eq0.false b.auto.bytes
-    c.if-out-k.false _ _ _ refl c.copy.ensures
+returns c = answer_route _ _ c.args.out.now c.in_ok-check_start.ensures _ c.in-Some.ensures c.if-out-nodes.false _ _ c.copy.ensures

@@ -1,7 +1,8 @@
 -- `routing::choose_row` meets its contract: the word of arcs and the parts lent are the words of one receiver.
 -- Assumes nothing.
-use mathlib.Core.Path.{◌∙◌}
-use Rattle.routing.proofs.Renewing.{choose_words}
+use mathlib.Core.Path.{ap, ◌∙◌}
+use Rattle.network.specs.Words.{row_means}
+use Rattle.routing.proofs.Renewing.{choose_words, choice_row}
 use Rattle.routing.proofs.choose_row.Goals as goal
 
 pub returns : goal.returns
@@ -9,5 +10,6 @@ returns c =
     let a = c.args in
     let p = c.requires in
     let arcs = c.left_out-arcs in
-    c.choose.ensures
-    ∙ choose_words a.net.now p.net_len a.n a.receiver p.nodes.is p.node.below arcs.result arcs.ensures
+    ap row_means c.unwrap_or.ensures
+    ∙ choice_row c.choose-chosen.result _ (c.choose-chosen.ensures
+    ∙ choose_words a.net.now p.net_len a.n a.receiver p.nodes.is p.node.below arcs.result arcs.ensures)

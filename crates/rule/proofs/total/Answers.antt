@@ -6,4 +6,4 @@ use Rattle.rule.proofs.total.Goals as goal
 
 pub returns : goal.returns
 unfolding cost_of
-returns c = omega (arith, c.wide.ensures, c.wide-2.ensures)
+returns c = omega arith
