@@ -1,11 +1,11 @@
 -- Lengths of records, and of records one after another.
 -- Assumes nothing.
 use mathlib.Core.Path.{◌≡◌, refl, sym, ap, ◌∙◌}
-use mathlib.Core.List.{List}
+use mathlib.Core.List.{List, ◌++◌}
 use Prim.Native.Nat.{ℕ, zero, suc, ◌+◌, ◌*◌, ◌-◌, ◌<◌, ◌≤◌}
 use native.Mathlib.Nat.{mul-le-mul}
 use native.Mathlib.Omega.{arith}
-use lib.ListN.{length, length-append}
+use lib.ListN.{length, take, drop, length-append}
 use Rattle.network.specs.Faults.{max_nodes, node_fault, pair_fault_of}
 use Rattle.network.specs.Network.{Net}
 use Rattle.records.specs.Image.{each, arc_bytes, row_bytes, report_bytes, max_pairs, full_image, max_image}
@@ -14,6 +14,8 @@ use Rattle.records.proofs.Each.{each_split, each_zero, each_next}
 use Rattle.records.proofs.Sizes.{arc_long, row_long, report_long, arc_most, row_most, report_most, kept_most}
 use Rattle.image.specs.Lines.{arc_at, row_at, report_at}
 use Rattle.image.specs.Measured.{sum, most_bytes_of}
+use Rattle.filling.specs.Filling.{Wrote}
+use Rattle.filling.proofs.Parts.{wrote_as, room, wrote_then}
 use Rattle.image.proofs.Sums.{sum_zero, sum_next}
 
 -- the lengths of records
@@ -78,3 +80,19 @@ module _ (f : ℕ → List ℕ) where
   each_sum (suc k) =
       let e : suc k ≡ k + 1 = omega arith in
       rw e (omega (arith, each_sum k, ap length (each_next f k), length-append (each f 0 k) (f k), sum_next (λ i. length (f i)) k))
+
+-- the records of the numbers below i stand at the front, and there is room for those below n
+module _ (f : ℕ → List ℕ) (i n : ℕ) (below : i < n) {out x : List ℕ} {at : ℕ} (front : Wrote (each f 0 i) out x at) (fits : length (each f 0 n) ≤ length out) where
+  -- the next one has room after them
+  enough : at + length (f i) ≤ length out
+  enough = omega (arith, front.used, fits, each_among f i n below)
+
+  pub next_room : length (f i) ≤ length (take (length x - at) (drop at x))
+  next_room = room (length (f i)) front enough
+
+  module _ {y : List ℕ} {r : ℕ} (wrote : Wrote (f i) (take (length x - at) (drop at x)) y r) where
+    pub next_ends : at + r ≤ length out
+    next_ends = omega (arith, wrote.used, enough)
+
+    pub next_wrote : Wrote (each f 0 (i + 1)) out (take at x ++ (y ++ drop (length x - at) (drop at x))) (at + r)
+    next_wrote = wrote_as (each_next f i) (wrote_then front wrote)

@@ -20,13 +20,17 @@ use Rattle.network.proofs.FaultLaws.{pair_says}
 use Rattle.network.proofs.Marking.{every_arc_lem}
 use Rattle.memory.specs.Layout.{view, cost_word_of, held_label_word_of, held_list_word_of}
 use Rattle.memory.specs.Answers.{read_row, row_means}
+use Rattle.std.specs.Prelude.{Option, Some, None, Result, Ok, Err}
+use Rattle.network.specs.declared.Fault.{Fault}
+use Rattle.network.specs.declared.Route.{Route}
 use Rattle.memory.specs.declared.RowRead.{RowRead}
 use Rattle.memory.specs.declared.RowRead.TheVariants as R
-use Rattle.memory.proofs.Laws.{few, said_refused, said_none, said_origin, said_route}
+use Rattle.memory.proofs.Laws.{few, said_refused, said_none, said_origin, said_relay}
 use Rattle.memory.proofs.ArcLaws.{arc_pair, arc_cost, arc_held, no_cost, no_report}
 use Rattle.records.specs.Records.{record_length, arc_record_of, row_record_of, report_record_of}
 use Rattle.records.specs.Image.{arc_bytes, row_bytes, report_bytes}
-use Rattle.image.specs.Lines.{arc_at, row_at, report_at, record_at}
+use Rattle.image.specs.Items.{route_bytes}
+use Rattle.image.specs.Lines.{arc_at, row_at, report_at}
 use Rattle.image.specs.Measured.{holds}
 use Rattle.image.proofs.Lengths.{arc_size, report_size}
 
@@ -37,19 +41,22 @@ neither false = refl
 
 -- ---- a row
 
-module _ (x : Net) (y : ℕ) where
-  -- no node, no route, or the origin
-  pub row_none : (r : RowRead) → row_means r ≡ read_row x y → ((d p l s : ℕ) → r ≡ R.Route d p l s → ⊥) → row_at x y ≡ []
-  unfolding row_at row_bytes
-  row_none R.Refused said h = rw (said_refused x y _ said refl)
-  row_none R.NoRoute said h = let a = said_none x y _ said refl in rw (a.0, a.1)
-  row_none (R.Origin l s) said h = let a = said_origin x y _ said refl in rw (a.0, a.1)
-  row_none (R.Route d p l s) said h = absurd (h d p l s refl)
+abbrev pub relayed : RowRead → Option Route
+relayed R.NoRoute = None
+relayed (R.Origin l s) = None
+relayed (R.Relay v s) = Some v
 
-  -- a relay with a route
-  pub row_some : (r : RowRead) → row_means r ≡ read_row x y → {d p l s : ℕ} → r ≡ R.Route d p l s → row_at x y ≡ row_record_of y d p l
+-- no node, no route, the origin, or a relay with a route
+module _ (x : Net) (y : ℕ) where
+  pub row_refused : (f : Fault) → row_means (Err f) ≡ read_row x y → row_at x y ≡ []
   unfolding row_at row_bytes
-  row_some r said e = let a = said_route x y r said e in rw (a.0, a.1)
+  row_refused f said = rw (said_refused x y (Err f) said refl)
+
+  pub row_read : (r : RowRead) → row_means (Ok r) ≡ read_row x y → row_at x y ≡ route_bytes y (relayed r)
+  unfolding row_at row_bytes route_bytes
+  row_read R.NoRoute said = let a = said_none x y (Ok R.NoRoute) said refl in rw (a.0, a.1)
+  row_read (R.Origin l s) said = let a = said_origin x y (Ok (R.Origin l s)) said refl in rw (a.0, a.1)
+  row_read (R.Relay v s) said = let a = said_relay x y (Ok (R.Relay v s)) said refl in rw (a.0, a.1)
 
 -- ---- the words of arcs as they are read
 
@@ -109,18 +116,3 @@ module _ (xs : List ℕ) (s r : ℕ) where
       go (inr e) z = rw (e, report_none e) (omega arith)
       go (inl e) (inl z) = rw (e, z, report_empty e (eqb-true (held_list_word_of xs s r) 0 z)) (omega arith)
       go (inl e) (inr z) = rw (e, z, report_some e (eqb-false (held_list_word_of xs s r) 0 z)) (omega (arith, report_size s r (held_label_word_of xs s r) (held_list_word_of xs s r)))
-
--- ---- by kind
-
-module _ (x : Net) (kind s i : ℕ) where
-  pub kind_arc : kind ≡ 2 → record_at x kind s i ≡ arc_at x s i
-  unfolding record_at
-  kind_arc e = rw (eq-eqb kind 2 e)
-
-  pub kind_row : (kind ≡ 2 → ⊥) → kind ≡ 3 → record_at x kind s i ≡ row_at x i
-  unfolding record_at
-  kind_row e g = rw (ne_eqb kind 2 e, eq-eqb kind 3 g)
-
-  pub kind_report : (kind ≡ 2 → ⊥) → (kind ≡ 3 → ⊥) → record_at x kind s i ≡ report_at x s i
-  unfolding record_at
-  kind_report e g = rw (ne_eqb kind 2 e, ne_eqb kind 3 g)

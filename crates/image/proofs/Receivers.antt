@@ -1,21 +1,49 @@
 -- The bytes of an image by receiver, counted in words, and at most how many they are.
 -- Assumes nothing.
-use mathlib.Core.Path.{◌≡◌, ap₂}
+use mathlib.Core.Path.{◌≡◌, refl, sym, ap₂, ◌∙◌}
 use mathlib.Core.List.{List}
-use Prim.Native.Nat.{ℕ, ◌+◌, ◌*◌, ◌≤◌}
+use Prim.Native.Nat.{ℕ, ◌+◌, ◌*◌, ◌<◌, ◌≤◌}
 use native.Mathlib.Omega.{arith}
 use lib.ListN.{length}
-use Rattle.ancestors.specs.Ancestors.{has, count}
+use mathlib.Core.Bool.{Bool, true, false, not, ◌&&◌}
+use mir.Val.{bool_byte}
+use lib.Dec.{eqb}
+use Rattle.ancestors.specs.Ancestors.{has, one, count}
+use Rattle.ancestors.proofs.Counting.{count_le}
 use Rattle.network.specs.Faults.{max_nodes}
 use Rattle.network.specs.Network.{Net}
 use Rattle.network.specs.Arcs.{arcs_to}
-use Rattle.memory.specs.Layout.{view}
+use Rattle.memory.specs.Layout.{view, held_list_word_of}
 use Rattle.records.specs.Records.{body_length, record_length}
 use Rattle.image.specs.Lines.{arc_at, row_at, report_at}
 use Rattle.image.specs.Measured.{holds, receiver_bytes}
-use Rattle.image.proofs.Sums.{sum_most, sum_count}
+use Rattle.image.proofs.Sums.{sum_most, sum_count, count_next}
 use Rattle.image.proofs.Lengths.{arc_at_most, row_at_most, report_at_most}
 use Rattle.image.proofs.Reading.{arc_counts, report_counts}
+
+-- a test as the code counts it
+one_byte : (b : Bool) → bool_byte b ≡ one b
+one_byte true = refl
+one_byte false = refl
+
+-- the reports held, counted sender by sender
+module _ (xs : List ℕ) (arcs r : ℕ) where
+  -- a sender that has no arc is passed
+  pub held_none : (s : ℕ) {total : ℕ} → has arcs s ≡ false → total ≡ count (holds xs arcs r) s → total ≡ count (holds xs arcs r) (s + 1)
+  unfolding holds
+  held_none s e h = let here : one (holds xs arcs r s) ≡ 0 = rw e refl in omega (arith, h, here, count_next (holds xs arcs r) s)
+
+  -- or one, by what its report's list is
+  module _ (s : ℕ) {total k list : ℕ} {arc : Bool} (bit : arc ≡ has arcs s) (word : list ≡ held_list_word_of xs s r) (counted : k ≡ bool_byte (arc && not (eqb list 0)))
+      (sofar : total ≡ count (holds xs arcs r) s) where
+    pub held_next : total + k ≡ count (holds xs arcs r) (s + 1)
+    unfolding holds
+    held_next =
+        let here : k ≡ one (holds xs arcs r s) = rw (← bit, ← word) (counted ∙ one_byte (arc && not (eqb list 0))) in
+        omega (arith, sofar, here, count_next (holds xs arcs r) s)
+
+    pub held_most : s < max_nodes → total + k ≤ max_nodes
+    held_most below = omega (arith, held_next, count_le (holds xs arcs r) (s + 1))
 
 -- by the arcs in the receiver's word, and by those among them that hold a report
 pub receiver_counts : (xs : List ℕ) (r : ℕ) → receiver_bytes (view xs) r ≡ length (row_at (view xs) r) +

@@ -1,6 +1,6 @@
 -- The records of an image by node and by pair of nodes, and in lines: of one sender to all receivers, or of all nodes.
 -- Assumes nothing.
-use Rattle.std.specs.Prelude.{cond, List, [], ℕ, eqb}
+use Rattle.std.specs.Prelude.{cond, List, [], ℕ}
 use Rattle.network.specs.Faults.{node_fault, pair_fault_of}
 use Rattle.network.specs.Network.{Net}
 use Rattle.records.specs.Image.{each, arc_bytes, row_bytes, report_bytes}
@@ -15,14 +15,9 @@ row_at x y = cond (node_fault x.nodes y) [] (row_bytes y (x.row y))
 unfoldable pub report_at : Net → ℕ → ℕ → List ℕ
 report_at x s r = cond (pair_fault_of x.nodes s r) [] (report_bytes s r (x.held s r))
 
--- by kind: 2 is an arc, 3 the row of i, and else a report
-unfoldable pub record_at : Net → ℕ → ℕ → ℕ → List ℕ
-record_at x kind s i = cond (eqb kind 2) (arc_at x s i) (cond (eqb kind 3) (row_at x i) (report_at x s i))
+-- the arcs of sender s to the receivers below n, and the reports of s that they hold
+abbrev pub arc_line : Net → ℕ → ℕ → List ℕ
+arc_line x n s = each (arc_at x s) 0 n
 
--- the records of a kind of sender s to the receivers below n, or those of the nodes below n
-abbrev pub record_line : Net → ℕ → ℕ → ℕ → List ℕ
-record_line x kind n s = each (record_at x kind s) 0 n
-
--- those of the senders below n
-abbrev pub record_lines : Net → ℕ → ℕ → List ℕ
-record_lines x kind n = each (record_line x kind n) 0 n
+abbrev pub report_line : Net → ℕ → ℕ → List ℕ
+report_line x n s = each (report_at x s) 0 n

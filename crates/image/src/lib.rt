@@ -3,25 +3,25 @@
 // Each record is written into the part of the output not yet filled: the writer lends the rest of the output to a record writer, which answers
 // the bytes used and leaves the remainder unchanged. The network is read by calls of `memory`; which arcs there are it answers once, as words, and an
 // arc's cost and report are then read without a look at n. No public function has a precondition.
-#![tactic(auto)]
+#![tactic(auto, unfolding(records::specs::Records::body_length))]
 
-ghost use Rattle.std.specs.Prelude.{◌≡◌, ◌&&◌, ◌+◌, ◌<◌, ◌≤◌, leb, length};
+ghost use Rattle.std.specs.Prelude.{◌≡◌, ◌&&◌, ◌+◌, ◌<◌, ◌≤◌, ℕ, List, leb, length};
 ghost use Rattle.std.proofs.lemmas.List.Edits.{sets};
-ghost use Rattle.ancestors.specs.Ancestors.{one, count};
+ghost use Rattle.ancestors.specs.Ancestors.{one, has, count};
 ghost use Rattle.network.specs.Faults.{max_nodes};
 ghost use Rattle.network.specs.Writing.{Writes};
 ghost use Rattle.network.specs.Arcs.{arcs_to, arc_words_of};
 ghost use Rattle.memory.specs.Layout.{view, held_label_word_of};
 ghost use Rattle.records.specs.Numbers.{be32};
 ghost use Rattle.records.specs.Records.{record_length, end_record, header_record_of, arc_record_of, row_record_of, report_record_of};
-ghost use Rattle.records.specs.Image.{image, image_of};
-ghost use Rattle.filling.specs.Filling.{Wrote, Added};
-ghost use Rattle.image.specs.Items.{item_bytes};
-ghost use Rattle.image.specs.Lines.{row_at, record_at, record_line, record_lines};
+ghost use Rattle.records.specs.Image.{each, image, image_of};
+ghost use Rattle.filling.specs.Filling.{Wrote};
+ghost use Rattle.image.specs.Items.{route_bytes, Puts};
+ghost use Rattle.image.specs.Lines.{arc_at, row_at, report_at, arc_line, report_line};
 ghost use Rattle.image.specs.Measured.{holds, receiver_bytes, most_bytes_of};
 
 use memory::{Network, RowRead};
-use network::Written;
+use network::{Fault, NODES, Pair, Route};
 
 // The bytes of a record of each kind: its kind byte and its body.
 const END_LENGTH: usize = 1;
@@ -36,9 +36,6 @@ const REPORT_LENGTH: usize = 1 + records::REPORT_BODY;
 
 // The first and the last record of an image.
 const ENDS_LENGTH: usize = HEADER_LENGTH + END_LENGTH;
-
-// The words of arcs, one for each receiver.
-type Arcs = [u32; network::MAX_NODES as usize];
 
 // Kinds of records.
 const END: u8 = 0;
@@ -77,15 +74,15 @@ fn put_header(out: &mut [u8], n: u32, origin: u32) -> usize
 // before the second one there is a test, which always passes, or a word of the network is read.
 
 // The record of an arc.
-fn put_arc(out: &mut [u8], sender: u32, receiver: u32, cost: u32) -> usize
+fn put_arc(out: &mut [u8], pair: Pair, cost: u32) -> usize
     requires { record_length 2 ≤ length out.old }
-    ensures { Wrote (arc_record_of sender receiver cost) out.old out.new result }
+    ensures { Wrote (arc_record_of pair.sender pair.receiver cost) out.old out.new result }
 {
     out[3] = (cost / 256 % 256) as u8;
     out[4] = (cost % 256) as u8;
     out[0] = ARC;
-    out[1] = (sender % 256) as u8;
-    out[2] = (receiver % 256) as u8;
+    out[1] = (pair.sender % 256) as u8;
+    out[2] = (pair.receiver % 256) as u8;
     ARC_LENGTH
 }
 
@@ -101,113 +98,221 @@ fn put32(out: &mut [u8], at: usize, x: u32)
 }
 
 // The record of a row.
-fn put_row(out: &mut [u8], node: u32, label: u32, predecessor: u32, list: u32) -> usize
+fn put_row(out: &mut [u8], node: u32, route: Route) -> usize
     requires { record_length 3 ≤ length out.old }
-    ensures { Wrote (row_record_of node label predecessor list) out.old out.new result }
+    ensures { Wrote (row_record_of node route.label route.predecessor route.list) out.old out.new result }
 {
-    put32(out, 2, label);
+    put32(out, 2, route.label);
     if out.len() < ROW_LENGTH {
         return ROW_LENGTH;
     }
-    put32(out, 7, list);
+    put32(out, 7, route.list);
     out[0] = ROW;
     out[1] = (node % 256) as u8;
-    out[6] = (predecessor % 256) as u8;
+    out[6] = (route.predecessor % 256) as u8;
     ROW_LENGTH
 }
 
 // The record of a report, whose label is read between its list and the rest.
-fn put_report(out: &mut [u8], net: &Network, sender: u32, receiver: u32, list: u32) -> usize
+fn put_report(out: &mut [u8], net: &Network, pair: Pair, list: u32) -> usize
     requires { record_length 4 ≤ length out.old }
-    ensures { Wrote (report_record_of sender receiver (held_label_word_of net.now sender receiver) list) out.old out.new result }
+    ensures { Wrote (report_record_of pair.sender pair.receiver (held_label_word_of net.now pair.sender pair.receiver) list) out.old out.new result }
 {
     put32(out, 7, list);
-    let label = memory::held_label_word(net, sender, receiver);
+    let label = memory::held_label_word(net, pair);
     put32(out, 3, label);
     out[0] = REPORT;
-    out[1] = (sender % 256) as u8;
-    out[2] = (receiver % 256) as u8;
+    out[1] = (pair.sender % 256) as u8;
+    out[2] = (pair.receiver % 256) as u8;
     REPORT_LENGTH
 }
 
 // ---- what the network has
 
-// A record of kind 2 or 4 from a sender to a receiver, or one of kind 3 of a node: what it holds besides these, but for a report's label.
+// A network with the words of its arcs, one for each receiver.
 #[derive(Drop)]
-enum Item {
-    Nothing,
-    Arc {
-        cost: u32,
-    },
-    Row {
-        label: u32,
-        predecessor: u32,
-        list: u32,
-    },
-    Report {
-        list: u32,
-    },
+struct Source<'a> {
+    net: &'a Network,
+    arcs: [u32; NODES],
+    ghost words: { arcs ≡ arc_words_of (view net.now) },
 }
 
-// By kind: of sender s and receiver i, or of node i.
-fn read_item(net: &Network, arcs: &Arcs, kind: u8, s: u32, i: u32) -> Item
-    requires arcs_value { arcs.now ≡ arc_words_of (view net.now) }
-    requires i_bound { i < (view net.now).nodes }
-    ensures { item_bytes net.now s i result ≡ record_at (view net.now) kind s i }
+// Reads the words.
+fn read_source(net: &Network) -> Source
+    ensures { result.net.now ≡ net.now }
 {
-    if kind == ARC {
-        if ancestors::listed(arcs[i as usize], s) {
-            return Item::Arc {
-                cost: memory::cost_word(net, s, i),
-            };
-        }
-        return Item::Nothing;
+    let mut arcs = [0u32; NODES];
+    memory::arc_words(net, &mut arcs);
+    Source {
+        net: net,
+        arcs: arcs,
     }
-    if kind == ROW {
-        let RowRead::Route {
-            label,
-            predecessor,
-            list,
-            hops: _,
-        } = memory::row(net, i)
-        else {
-            return Item::Nothing;
-        };
-        return Item::Row {
-            label: label,
-            predecessor: predecessor,
-            list: list,
-        };
+}
+
+// Whether the pair has an arc.
+fn has_arc(from: &Source, pair: Pair) -> bool
+    requires sender_bound { pair.sender < (view from.now.net.now).nodes }
+    requires receiver_bound { pair.receiver < (view from.now.net.now).nodes }
+    ensures { result ≡ has (arcs_to (view from.now.net.now) pair.receiver) pair.sender }
+{
+    ancestors::listed(from.arcs[pair.receiver as usize], pair.sender)
+}
+
+// A relay's route; none of the origin, and of what is no node.
+fn relay_route(net: &Network, node: u32) -> Option<Route>
+    ensures { route_bytes node result ≡ row_at (view net.now) node }
+{
+    match memory::row(net, node) {
+        Ok(RowRead::Relay { route, hops: _ }) => Some(route),
+        Ok(RowRead::NoRoute) => None,
+        Ok(RowRead::Origin { list: _, hops: _ }) => None,
+        Err(_) => None,
     }
-    if ancestors::listed(arcs[i as usize], s) {
-        let list = memory::held_list_word(net, s, i);
-        if list == 0 {
-            return Item::Nothing;
-        }
-        return Item::Report { list: list };
+}
+
+// ---- a record where the network has one, at the front of a part; no byte is used where it has none
+
+fn write_arc(from: &Source, pair: Pair, out: &mut [u8]) -> usize
+    requires sender_bound { pair.sender < (view from.now.net.now).nodes }
+    requires receiver_bound { pair.receiver < (view from.now.net.now).nodes }
+    requires room { length (arc_at (view from.now.net.now) pair.sender pair.receiver) ≤ length out.old }
+    ensures { Wrote (arc_at (view from.now.net.now) pair.sender pair.receiver) out.old out.new result }
+{
+    if !has_arc(from, pair) {
+        return 0;
     }
-    Item::Nothing
+    put_arc(out, pair, memory::cost_word(from.net, pair))
+}
+
+fn write_row(from: &Source, node: u32, out: &mut [u8]) -> usize
+    requires { length (row_at (view from.now.net.now) node) ≤ length out.old }
+    ensures { Wrote (row_at (view from.now.net.now) node) out.old out.new result }
+{
+    match relay_route(from.net, node) {
+        None => 0,
+        Some(route) => put_row(out, node, route),
+    }
+}
+
+fn write_report(from: &Source, pair: Pair, out: &mut [u8]) -> usize
+    requires sender_bound { pair.sender < (view from.now.net.now).nodes }
+    requires receiver_bound { pair.receiver < (view from.now.net.now).nodes }
+    requires room { length (report_at (view from.now.net.now) pair.sender pair.receiver) ≤ length out.old }
+    ensures { Wrote (report_at (view from.now.net.now) pair.sender pair.receiver) out.old out.new result }
+{
+    if !has_arc(from, pair) {
+        return 0;
+    }
+    let list = memory::held_list_word(from.net, pair);
+    if list == 0 {
+        return 0;
+    }
+    put_report(out, from.net, pair, list)
+}
+
+// ---- records, one after another
+
+// The records of the numbers below n: each is written by a writer that is lent the part not yet filled.
+fn write_each<F: Fn(u32, &mut [u8]) -> usize>(n: u32, out: &mut [u8], write: F) -> usize
+    ghost record_of: { ℕ → List ℕ }
+    requires writes { Puts (F.pre write) (F.post write) record_of n }
+    requires room { length (each record_of 0 n) ≤ length out.old }
+    ensures { Wrote (each record_of 0 n) out.old out.new result }
+{
+    let mut at: usize = 0;
+    for i in 0..n {
+        at = at + write(i, &mut out[at..]);
+    }
+    at
+}
+
+// The arcs of a sender, and the reports of it that receivers hold.
+fn write_arcs(from: &Source, sender: u32, n: u32, out: &mut [u8]) -> usize
+    requires sender_bound { sender < (view from.now.net.now).nodes }
+    requires n_bound { n ≤ (view from.now.net.now).nodes }
+    requires room { length (arc_line (view from.now.net.now) n sender) ≤ length out.old }
+    ensures { Wrote (arc_line (view from.now.net.now) n sender) out.old out.new result }
+{
+    write_each(
+        n,
+        out,
+        |receiver, part| write_arc(
+            from,
+            Pair {
+                sender: sender,
+                receiver: receiver,
+            },
+            part,
+        ),
+    )
+}
+
+fn write_reports(from: &Source, sender: u32, n: u32, out: &mut [u8]) -> usize
+    requires sender_bound { sender < (view from.now.net.now).nodes }
+    requires n_bound { n ≤ (view from.now.net.now).nodes }
+    requires room { length (report_line (view from.now.net.now) n sender) ≤ length out.old }
+    ensures { Wrote (report_line (view from.now.net.now) n sender) out.old out.new result }
+{
+    write_each(
+        n,
+        out,
+        |receiver, part| write_report(
+            from,
+            Pair {
+                sender: sender,
+                receiver: receiver,
+            },
+            part,
+        ),
+    )
+}
+
+// Writes an image where there is room for it.
+fn write_all(from: &Source, out: &mut [u8]) -> usize
+    requires { length (image (view from.now.net.now)) ≤ length out.old }
+    ensures { Wrote (image (view from.now.net.now)) out.old out.new result }
+{
+    let n = memory::nodes(from.net);
+    let arcs = put_header(out, n, memory::origin(from.net));
+    let rows = arcs
+        + write_each(
+            n,
+            &mut out[arcs..],
+            |sender, part| write_arcs(from, sender, n, part),
+        );
+    let reports = rows
+        + write_each(
+            n,
+            &mut out[rows..],
+            |node, part| write_row(from, node, part),
+        );
+    let end = reports
+        + write_each(
+            n,
+            &mut out[reports..],
+            |sender, part| write_reports(from, sender, n, part),
+        );
+    end + put_end(&mut out[end..])
 }
 
 // ---- lengths
-
-// 1 where both hold.
-fn both(a: bool, b: bool) -> u32
-    ensures { result ≡ one (a && b) }
-{
-    (a & b) as u32
-}
 
 // How many reports receiver r holds, over these arcs, from arc to arc.
 fn held_few(net: &Network, arcs: u32, r: u32) -> u32
     ensures { result ≡ count (holds net.now arcs r) max_nodes }
 {
     let mut total: u32 = 0;
-    let mut left = arcs;
-    while left != 0 {
-        let s = ancestors::lowest(left);
-        total = total + both(true, memory::held_list_word(net, s, r) != 0);
-        left = ancestors::left_out(left, s);
+    for s in ancestors::nodes_of(arcs) {
+        total = total
+            + u32::from(
+                memory::held_list_word(
+                    net,
+                    Pair {
+                        sender: s,
+                        receiver: r,
+                    },
+                ) != 0,
+            );
     }
     total
 }
@@ -220,9 +325,15 @@ fn held_all(net: &Network, arcs: u32, r: u32) -> u32
     let mut total: u32 = 0;
     for s in 0u32..network::MAX_NODES {
         total = total
-            + both(
-                ancestors::listed(arcs, s),
-                memory::held_list_word(net, s, r) != 0,
+            + u32::from(
+                ancestors::listed(arcs, s)
+                    & (memory::held_list_word(
+                        net,
+                        Pair {
+                            sender: s,
+                            receiver: r,
+                        },
+                    ) != 0),
             );
     }
     total
@@ -242,16 +353,10 @@ fn held_count(net: &Network, arcs: u32, r: u32) -> u32
 fn row_length(net: &Network, r: u32) -> usize
     ensures { result ≡ length (row_at (view net.now) r) }
 {
-    let RowRead::Route {
-        label: _,
-        predecessor: _,
-        list: _,
-        hops: _,
-    } = memory::row(net, r)
-    else {
-        return 0;
-    };
-    ROW_LENGTH
+    match relay_route(net, r) {
+        None => 0,
+        Some(_) => ROW_LENGTH,
+    }
 }
 
 // The bytes of an image, without the first and the last record, that are of receiver r: its row, the arcs to it, and the reports that it holds.
@@ -265,124 +370,14 @@ fn receiver_length(net: &Network, arcs: u32, r: u32) -> usize
 }
 
 // The length of an image, by the arcs' words.
-fn counted_length(net: &Network, arcs: &Arcs) -> usize
-    requires { arcs.now ≡ arc_words_of (view net.now) }
-    ensures { result ≡ length (image (view net.now)) }
+fn counted_length(from: &Source) -> usize
+    ensures { result ≡ length (image (view from.now.net.now)) }
 {
-    let n = memory::nodes(net);
     let mut total = ENDS_LENGTH;
-    let mut r: u32 = 0;
-    while r < n {
-        total = total + receiver_length(net, arcs[r as usize], r);
-        r = r + 1;
+    for r in 0..memory::nodes(from.net) {
+        total = total + receiver_length(from.net, from.arcs[r as usize], r);
     }
     total
-}
-
-// The length of a network's image.
-pub fn image_length(net: &Network) -> usize
-    ensures { result ≡ length (image (view net.now)) }
-{
-    let mut arcs = [0u32; network::MAX_NODES as usize];
-    memory::arc_words(net, &mut arcs);
-    counted_length(net, &arcs)
-}
-
-// ---- a record where the network has one
-
-// At the front of a part, with the bytes used as the answer.
-fn put_item(net: &Network, item: Item, s: u32, i: u32, out: &mut [u8]) -> usize
-    requires { length (item_bytes net.now s i item) ≤ length out.old }
-    ensures { Wrote (item_bytes net.now s i item) out.old out.new result }
-{
-    match item {
-        Item::Nothing => 0,
-        Item::Arc { cost } => put_arc(out, s, i, cost),
-        Item::Row {
-            label,
-            predecessor,
-            list,
-        } => put_row(out, i, label, predecessor, list),
-        Item::Report { list } => put_report(out, net, s, i, list),
-    }
-}
-
-// From a place of the output on; answers the place after it.
-fn put_record(
-    net: &Network,
-    arcs: &Arcs,
-    kind: u8,
-    s: u32,
-    i: u32,
-    out: &mut [u8],
-    at: usize,
-) -> usize
-    requires arcs_value { arcs.now ≡ arc_words_of (view net.now) }
-    requires i_bound { i < (view net.now).nodes }
-    requires room { at + length (record_at (view net.now) kind s i) ≤ length out.old }
-    ensures { Added (record_at (view net.now) kind s i) out.old out.new at result }
-{
-    let item = read_item(net, arcs, kind, s, i);
-    match item {
-        Item::Nothing => at,
-        _ => at + put_item(net, item, s, i, &mut out[at..]),
-    }
-}
-
-// ---- records, one after another
-
-fn put_line(
-    net: &Network,
-    arcs: &Arcs,
-    kind: u8,
-    s: u32,
-    n: u32,
-    out: &mut [u8],
-    start: usize,
-) -> usize
-    requires arcs_value { arcs.now ≡ arc_words_of (view net.now) }
-    requires n_bound { n ≤ (view net.now).nodes }
-    requires room { start + length (record_line (view net.now) kind n s) ≤ length out.old }
-    ensures { Added (record_line (view net.now) kind n s) out.old out.new start result }
-{
-    let mut at = start;
-    let mut i: u32 = 0;
-    while i < n {
-        at = put_record(net, arcs, kind, s, i, out, at);
-        i = i + 1;
-    }
-    at
-}
-
-fn put_lines(net: &Network, arcs: &Arcs, kind: u8, n: u32, out: &mut [u8], start: usize) -> usize
-    requires arcs_value { arcs.now ≡ arc_words_of (view net.now) }
-    requires n_bound { n ≤ (view net.now).nodes }
-    requires room { start + length (record_lines (view net.now) kind n) ≤ length out.old }
-    ensures { Added (record_lines (view net.now) kind n) out.old out.new start result }
-{
-    let mut at = start;
-    let mut s: u32 = 0;
-    while s < n {
-        at = put_line(net, arcs, kind, s, n, out, at);
-        s = s + 1;
-    }
-    at
-}
-
-// ---- the image
-
-// Writes an image where there is room for it.
-fn put_image(net: &Network, arcs: &Arcs, out: &mut [u8]) -> usize
-    requires arcs_value { arcs.now ≡ arc_words_of (view net.now) }
-    requires room { length (image (view net.now)) ≤ length out.old }
-    ensures { Wrote (image (view net.now)) out.old out.new result }
-{
-    let n = memory::nodes(net);
-    let first = put_header(out, n, memory::origin(net));
-    let rows = put_lines(net, arcs, ARC, n, out, first);
-    let reports = put_line(net, arcs, ROW, 0, n, out, rows);
-    let end = put_lines(net, arcs, REPORT, n, out, reports);
-    end + put_end(&mut out[end..])
 }
 
 // The most bytes of an image of n nodes: every pair with an arc and a report, every node but the origin with a route.
@@ -397,30 +392,34 @@ fn most_bytes(n: u32) -> usize
 
 // Whether an output of this length has room for the image. No image of a network with its origin among n nodes is longer than the most for n, so that
 // nothing is counted for an output of that length.
-fn fits(net: &Network, arcs: &Arcs, room: usize) -> bool
-    requires { arcs.now ≡ arc_words_of (view net.now) }
-    ensures { result ≡ leb (length (image (view net.now))) room }
+fn fits(from: &Source, room: usize) -> bool
+    ensures { result ≡ leb (length (image (view from.now.net.now))) room }
 {
-    let n = memory::nodes(net);
-    if memory::origin(net) < n {
+    let n = memory::nodes(from.net);
+    if memory::origin(from.net) < n {
         if most_bytes(n) <= room {
             return true;
         }
     }
-    counted_length(net, arcs) <= room
+    counted_length(from) <= room
 }
 
-// Writes a network's image. The number is 0, or 6 where the output is shorter than the image, and then nothing is written.
-pub fn write_image(net: &Network, out: &mut [u8]) -> Written
+// ---- the calls
+
+// The length of a network's image.
+pub fn image_length(net: &Network) -> usize
+    ensures { result ≡ length (image (view net.now)) }
+{
+    counted_length(&read_source(net))
+}
+
+// Writes a network's image and answers its length. Refused as Room where the output is shorter than the image, and then nothing is written.
+pub fn write_image(net: &Network, out: &mut [u8]) -> Result<usize, Fault>
     ensures { Writes (image_of (view net.now) out.old) result out.new }
 {
-    let mut arcs = [0u32; network::MAX_NODES as usize];
-    memory::arc_words(net, &mut arcs);
-    if fits(net, &arcs, out.len()) {
-        return Written {
-            number: 0,
-            used: put_image(net, &arcs, out),
-        };
+    let from = read_source(net);
+    if !fits(&from, out.len()) {
+        return Err(Fault::Room);
     }
-    Written { number: 6, used: 0 }
+    Ok(write_all(&from, out))
 }

@@ -1,4 +1,2 @@
--- Opening in memory: one record placed, the loop over them, the whole. The first line of each file says what it has.
-mod Placing
+-- Opening in memory: the loop over the records.
 mod Loop
-mod Opening

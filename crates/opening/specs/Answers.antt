@@ -1,42 +1,44 @@
--- What the functions answer, and the network after them.
+-- What opening answers, and the network after it.
 -- Assumes nothing.
-use Rattle.std.specs.Prelude.{◌≡◌, cond, List, ℕ, ◌+◌, eqb}
+use Rattle.std.specs.Prelude.{◌≡◌, cond, List, Option, Some, None, Result, Ok, Err, ℕ, ◌+◌, ltb}
+use Rattle.std.specs.Result.{result_unwrap_or}
 use Rattle.network.specs.Network.{Net}
+use Rattle.network.specs.Answered.{fault_number}
+use Rattle.network.specs.declared.Fault.{Fault}
+use Rattle.network.specs.declared.Fault.TheVariants.{Order}
 use Rattle.memory.specs.Layout.{view}
-use Rattle.records.specs.declared.Event.{Event}
 use Rattle.records.specs.Opening.{Step, stop, finish, onward, placed, Opening, refused_opening, accepted_opening}
-use Rattle.opening.specs.declared.Next.{Next}
-use Rattle.opening.specs.declared.Next.TheVariants.{Stopped, Finished, Onward}
-use Rattle.opening.specs.declared.Finish.{Finish}
-use Rattle.opening.specs.declared.Finish.TheVariants.{Refused, Accepted}
+use Rattle.records.specs.Stopped.{stop_number, stop_place, stop_of}
+use Rattle.records.specs.declared.Event.{Event}
+use Rattle.records.specs.declared.Stop.{Stop}
 
--- number, place, bytes used and words are what the opening o says
-pub record Opens (o : Opening) (number place used : ℕ) (words : List ℕ) : Type 0 where
-  pub number_is : number ≡ o.number
-  pub place_is : place ≡ o.place
-  pub used_is : used ≡ o.used
+-- number, place and bytes used of the answer r, and the words, are what the opening o says
+pub record Opens (o : Opening) (r : Result ℕ Stop) (words : List ℕ) : Type 0 where
+  pub number_is : stop_number (stop_of r) ≡ o.number
+  pub place_is : stop_place (stop_of r) ≡ o.place
+  pub used_is : result_unwrap_or r 0 ≡ o.used
   pub net_is : view words ≡ o.net
 
 -- ---- a record of an image
 
--- the step of each case of the enum, with the network x after it
-unfoldable pub step_means : Next → Net → Step
-step_means (Stopped e) x = stop e
-step_means Finished x = finish
-step_means (Onward k) x = onward x k
+-- the ranks above a record of rank k, where the ranks from `next` on are above the one before it
+abbrev pub ranks_above : ℕ → ℕ → Result ℕ Fault
+ranks_above next k = cond (ltb k next) (Err Order) (Ok (k + 1))
 
--- what the number of a record of rank k leads to
-unfoldable pub next_of : ℕ → ℕ → Next
-next_of e k = cond (eqb e 0) (Onward (k + 1)) (Stopped e)
+-- the step of each answer, with the network x after it
+abbrev pub step_means : Result (Option ℕ) Fault → Net → Step
+step_means (Err f) x = stop (fault_number f)
+step_means (Ok None) x = finish
+step_means (Ok (Some k)) x = onward x k
 
 -- a record with the event e led from the network x to the answer r and the network z; the end of an image leaves the network
-pub record Places (x : Net) (next : ℕ) (e : Event) (r : Next) (z : Net) : Type 0 where
+pub record Places (x : Net) (next : ℕ) (e : Event) (r : Result (Option ℕ) Fault) (z : Net) : Type 0 where
   pub step : step_means r z ≡ placed x next e
-  pub ended : r ≡ Finished → z ≡ x
+  pub ended : r ≡ Ok None → z ≡ x
 
--- ---- the records after the first
+-- ---- the records after the first, and the whole
 
--- the opening of each case of the enum, with the network x after it
-unfoldable pub finish_means : Finish → Net → Opening
-finish_means (Refused e p) x = refused_opening e p
-finish_means (Accepted u) x = accepted_opening x u
+-- the opening of each answer, with the network x after it
+abbrev pub read_means : Result ℕ Stop → Net → Opening
+read_means (Err s) x = refused_opening (fault_number s.fault) s.place
+read_means (Ok used) x = accepted_opening x used

@@ -108,19 +108,12 @@ module _ (a : ℕ) (b : List ℕ) where
   unfolding entry_fault entry_metric
   entry_by f = rw (f.family, f.tag, f.address, f.mask, f.next_hop, eqb_same a)
 
-  -- its first sixteen bytes as two numbers of eight
-  pub fields_by : Bytes b → a < 2 ^ 32 → num32 b 0 * 4294967296 + num32 b 4 ≡ 131072 * 4294967296 + a → num32 b 8 * 4294967296 + num32 b 12 ≡ mask * 4294967296
-      → Fields
+  -- by its numbers of four bytes
+  pub fields_by : Bytes b → num32 b 0 ≡ 131072 → num32 b 4 ≡ a → num32 b 8 ≡ mask → num32 b 12 ≡ 0 → Fields
   unfolding num32
-  fields_by bytes word p q =
-      let l = low b bytes in
-      record {
-        family = omega (arith, l 2, l 4, l 6);
-        tag = omega (arith, l 2, l 4, l 6);
-        address = omega (arith, l 4, l 6);
-        mask = omega (arith, l 12, l 14);
-        next_hop = omega (arith, l 12, l 14);
-      }
+  fields_by bytes p q r s =
+      let l = low b bytes 2 in
+      record { family = omega arith; tag = omega arith; address = q; mask = r; next_hop = s }
 
   pub family_same : Fields → num32 b 0 ≡ 131072
   unfolding num32

@@ -121,21 +121,15 @@ pub fn put_entry(a: u32, m: u8, out: &mut [u8]) -> usize
     ENTRY_LENGTH
 }
 
-// Two numbers of four bytes as one of eight.
-fn double(high: u32, low: u32) -> u64
-    ensures { result ≡ high * 4294967296 + low }
-{
-    u64::from(high) * 4294967296 + u64::from(low)
-}
-
-// The metric of the entry that a part is; None where a field is wrong. Two fields at a time: the compiler loads eight bytes at once.
+// The metric of the entry that a part is; None where a field is wrong.
 pub fn read_entry(part: &[u8], a: u32) -> Option<u8>
     ensures { result ≡ cond (entry_fault a part.now) None (Some (entry_metric part.now)) }
 {
-    if double(reading::word(part, 0), reading::word(part, 4)) != double(FAMILY_TAG, a) {
-        return None;
-    }
-    if double(reading::word(part, 8), reading::word(part, 12)) != double(MASK, 0) {
+    if reading::word(part, 0) != FAMILY_TAG
+        || reading::word(part, 4) != a
+        || reading::word(part, 8) != MASK
+        || reading::word(part, 12) != 0
+    {
         return None;
     }
     let m = reading::word(part, 16);

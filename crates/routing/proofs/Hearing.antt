@@ -1,70 +1,109 @@
 -- Hearing arc by arc comes to the first half of a round.
 -- Assumes nothing.
 use mathlib.Core.Path.{◌≡◌, refl, sym, ap, ap₂, subst, ◌∙◌}
-use mathlib.Core.Bool.{Bool, true, false, cond, ◌&&◌, ◌||◌, and-false, or-false}
+use mathlib.Core.Bool.{Bool, true, false, cond, ◌&&◌, ◌||◌, and-true, and-false, or-false}
 use mathlib.Core.Logic.{◌⊎◌, inl, inr, ◌≢◌}
 use mathlib.Core.List.{List}
-use Prim.Native.Nat.{ℕ, ◌+◌, ◌*◌, ◌<◌, ◌≤◌}
+use Rattle.std.specs.Prelude.{Option, Some, None}
+use Prim.Native.Nat.{ℕ, ◌+◌, ◌*◌, ◌<◌, ◌≤◌, min}
 use native.Mathlib.Omega.{arith}
 use lib.Dec.{eqb, ltb}
-use lib.ListN.{length, set, length-set}
+use lib.ListN.{length, get_or, set, length-set}
 use lib.Seq.{get_or-set_same, get_or-set_other, set-get_or}
 use borrow.Author.Tests.{lt-ltb, le-ltb, eq-eqb, ne_eqb}
 use Rattle.ancestors.specs.Ancestors.{has, own}
 use Rattle.ancestors.proofs.Cases.{bool_cases, le_or_lt, eq_or_ne, eqb_same, ltb_other, never}
 use Rattle.ancestors.proofs.Laws.{put_some}
-use Rattle.network.specs.Network.{none, root, via, Report, empty, told, Net, set_pair, with_held}
-use Rattle.network.specs.Round.{Marks, report, hear, every_arc}
-use Rattle.network.specs.Words.{report_of}
-use Rattle.memory.specs.Layout.{word_count, row_of, look, view, arc_bits, held_labels, held_lists, row_labels, row_lists, row_predecessors}
-use Rattle.memory.specs.Inner.{Node}
-use Rattle.routing.specs.Inner.{Nodes, Primed, Hears, OnArc, OnArcs, Given, RowWord, given, one_mark, row_marks}
-use Rattle.network.proofs.Arcs.{hear_ext}
-use Rattle.network.proofs.Effects.{same_reports}
+use Rattle.network.specs.Network.{Frame, Row, none, root, via, Report, empty, told, Net, with_rows, with_reports}
+use Rattle.network.specs.Faults.{max_nodes, pair_fault_of}
+use Rattle.network.specs.Round.{Marks, report, hear, marked, every_arc}
+use Rattle.network.specs.Arcs.{arcs_to}
+use Rattle.network.specs.Words.{report_of, cost_of}
+use Rattle.memory.specs.Layout.{word_count, frame_in, word, row_of, net_of, node_row, look, view, arc_bits, arc_costs, held_labels, held_lists, row_labels, row_lists, row_predecessors}
+use Rattle.routing.specs.Inner.{by_words, Primed, hear_arcs, given, one_mark, row_marks}
+use Rattle.network.proofs.Arcs.{arcs_exact}
+use Rattle.network.proofs.Effects.{same_net, same_reports}
 use Rattle.network.proofs.FaultLaws.{pair_says}
 use Rattle.memory.proofs.Laws.{few, read_origin}
-use Rattle.memory.proofs.Store.{Has, arc_is, present_pair, read_relay, store_report, store_origin}
+use Rattle.memory.proofs.Store.{Has, arc_is, arc_beyond, present_in, present_out, present_pair, word_in, read_cost_lem, read_held, cost_none, held_none, store_origin}
 
 -- ---- laws of hearing
 
-pub hear_none : (m : Marks) (x : Net) → ((s r : ℕ) → m s r ≡ false) → hear m x ≡ x
-unfolding hear
-hear_none m x e = same_reports x (λ s r. λ j. cond (e s r j) (report (x.row s)) (x.held s r))
-
--- hearing twice is hearing what is in either set of marks
-pub hear_hear : (m m' : Marks) (x : Net) → hear m (hear m' x) ≡ hear (λ s r. m s r || m' s r) x
-unfolding hear
-hear_hear m m' x = same_reports x (λ s r. go (m s r) (report (x.row s)) (m' s r) (x.held s r))
+-- only marks on arcs count
+pub hear_arcs_ext : (m m' : Marks) (x : Net) → ((s r : ℕ) → every_arc x s r ≡ true → m s r ≡ m' s r) → hear_arcs m x ≡ hear_arcs m' x
+unfolding hear_arcs hear
+hear_arcs_ext m m' x e = same_reports x (λ s r. go s r (every_arc x s r) refl)
   where
-    go : (t : Bool) (h : Report) (u : Bool) (g : Report) → cond t h (cond u h g) ≡ cond (t || u) h g
-    go true h u g = refl
-    go false h u g = refl
+    go : (s r : ℕ) (t : Bool) → every_arc x s r ≡ t → cond (m s r && t) (report (x.row s)) (x.held s r) ≡ cond (m' s r && t) (report (x.row s)) (x.held s r)
+    go s r true q = rw (e s r q)
+    go s r false q = rw (and-false (m s r), and-false (m' s r))
 
-pub hear_nodes : (m : Marks) (x : Net) → (hear m x).nodes ≡ x.nodes
-unfolding hear
-hear_nodes m x = refl
+pub hear_no_arcs : (m : Marks) (x : Net) → ((s r : ℕ) → m s r ≡ false) → x ≡ hear_arcs m x
+unfolding hear_arcs hear
+hear_no_arcs m x e = same_reports x (λ s r. rw (e s r))
 
-hear_origin : (m : Marks) (x : Net) → (hear m x).origin ≡ x.origin
-unfolding hear
-hear_origin m x = refl
-
-pub hear_cost : (m : Marks) (x : Net) → (hear m x).cost ≡ x.cost
-unfolding hear
-hear_cost m x = refl
-
--- one arc
-hear_one : (x : Net) (s r : ℕ) (t : Bool) → with_held x s r (cond t (report (x.row s)) (x.held s r)) ≡ hear (one_mark s r t) x
-unfolding with_held hear set_pair one_mark
-hear_one x s r t = same_reports x (λ a b. go a b (eq_or_ne a s) (eq_or_ne b r))
+-- hearing further marks
+pub hear_more : (m m' m'' : Marks) (x y z : Net) → y ≡ hear_arcs m x → z ≡ hear_arcs m' y → ((s r : ℕ) → (m' s r || m s r) ≡ m'' s r) → z ≡ hear_arcs m'' x
+unfolding hear_arcs hear every_arc
+hear_more m m' m'' x y z e h same =
+    h ∙ ap (hear_arcs m') e ∙ same_reports x (λ s r. go (m' s r) (m s r) (m'' s r) (ltb 0 (x.cost s r)) (report (x.row s)) (x.held s r) (same s r))
   where
-    go : (a b : ℕ) → (a ≡ s) ⊎ (a ≢ s) → (b ≡ r) ⊎ (b ≢ r)
-        → cond (eqb a s && eqb b r) (cond t (report (x.row s)) (x.held s r)) (x.held a b)
-        ≡ cond (eqb a s && (eqb b r && t)) (report (x.row a)) (x.held a b)
-    go a b (inl e) (inl d) = rw (e, d, eqb_same s, eqb_same r)
-    go a b (inl e) (inr n) = rw (e, eqb_same s, ne_eqb b r n)
-    go a b (inr n) d = rw (ne_eqb a s n)
+    go : (u t v a : Bool) (h g : Report) → (u || t) ≡ v → cond (u && a) h (cond (t && a) h g) ≡ cond (v && a) h g
+    go true t v true h g q = rw (← q)
+    go true t v false h g q = rw (and-false t, and-false v)
+    go false t v a h g q = rw q
 
--- ---- the words that are heard
+-- hearing changes no arc
+pub arcs_kept : (m : Marks) (x y : Net) → y ≡ hear_arcs m x → (s r : ℕ) → every_arc y s r ≡ every_arc x s r
+unfolding hear_arcs hear every_arc
+arcs_kept m x y h s r = ap (λ (z : Net). ltb 0 (z.cost s r)) h
+
+-- ---- the words before those of reports
+
+module _ (xs ys : List ℕ) (same : (k : ℕ) → k < held_labels → look ys k ≡ look xs k) where
+  frame_same : frame_in (look ys) ≡ frame_in (look xs)
+  unfolding frame_in
+  frame_same = λ j. record { nodes = min (same 0 (omega arith) j) max_nodes; origin = same 1 (omega arith) j }
+
+  nodes_same : (view ys).nodes ≡ (view xs).nodes
+  unfolding view net_of
+  nodes_same = ap (λ (t : Frame). t.nodes) frame_same
+
+  has_same : (s r : ℕ) → Has ys s r ≡ Has xs s r
+  has_same s r = go (bool_cases (pair_fault_of (view xs).nodes s r))
+    where
+      go : (pair_fault_of (view xs).nodes s r ≡ true) ⊎ (pair_fault_of (view xs).nodes s r ≡ false) → Has ys s r ≡ Has xs s r
+      go (inl e) = present_out _ (look ys) s r (ap (λ n. pair_fault_of n s r) nodes_same ∙ e) ∙ sym (present_out _ (look xs) s r e)
+      go (inr e) =
+          present_in _ (look ys) s r (ap (λ n. pair_fault_of n s r) nodes_same ∙ e)
+          ∙ ap (λ w. has w s) (same (arc_bits + r) (omega (arith, pair_says _ s r e, few xs))) ∙ sym (present_in _ (look xs) s r e)
+
+  cost_same : (s r : ℕ) → (view ys).cost s r ≡ (view xs).cost s r
+  cost_same s r = go (bool_cases (Has xs s r))
+    where
+      go : (Has xs s r ≡ true) ⊎ (Has xs s r ≡ false) → (view ys).cost s r ≡ (view xs).cost s r
+      go (inl e) =
+          let k = pair_says _ s r (present_pair _ (look xs) s r e) in
+          sym (read_cost_lem ys s r (has_same s r ∙ e)) ∙ ap cost_of (same (arc_costs + (r * 32 + s)) (omega (arith, k, few xs)))
+          ∙ read_cost_lem xs s r e
+      go (inr e) = cost_none ys s r (has_same s r ∙ e) ∙ sym (cost_none xs s r e)
+
+  word_same : (b y : ℕ) → b + 32 ≤ held_labels → word (view ys).nodes (look ys) b y ≡ word (view xs).nodes (look xs) b y
+  unfolding word
+  word_same b y h = rw nodes_same (go (le_or_lt (view xs).nodes y))
+    where
+      go : ((view xs).nodes ≤ y) ⊎ (y < (view xs).nodes) → cond (ltb y (view xs).nodes) (look ys (b + y)) 0 ≡ cond (ltb y (view xs).nodes) (look xs (b + y)) 0
+      go (inl k) = rw (le-ltb y (view xs).nodes k)
+      go (inr k) = ap (λ v. cond (ltb y (view xs).nodes) v 0) (same (b + y) (omega (arith, few xs)))
+
+  -- only reports differ
+  reports_changed : (h : ℕ → ℕ → Report) → ((s r : ℕ) → (view ys).held s r ≡ h s r) → by_words ys ≡ with_reports (by_words xs) h
+  unfolding by_words view net_of
+  reports_changed h e =
+      same_net _ _ frame_same cost_same
+      (λ y. λ j. row_of (word_same row_labels y (omega arith) j) (word_same row_predecessors y (omega arith) j) (word_same row_lists y (omega arith) j)) e
+
+-- ---- one arc
 
 report_of_lem : (d p l : ℕ) → report (row_of d p l) ≡ report_of d l
 unfolding report row_of report_of
@@ -74,126 +113,79 @@ report_of_lem d p l = go (eqb l 0)
     go true = refl
     go false = refl
 
-report_root : (o : ℕ) → report_of 0 (own o) ≡ report (root (own o))
-unfolding report report_of
-report_root o = rw (ne_eqb (own o) 0 (put_some 0 o))
-
--- a sender's words in memory are what its row reports
-pub read_report : (xs : List ℕ) → Primed xs → (s : ℕ) → s < (view xs).nodes → report_of (look xs (row_labels + s)) (look xs (row_lists + s)) ≡
-    report ((view xs).row s)
-read_report xs primed s h = go (eq_or_ne s (view xs).origin)
-  where
-    go : (s ≡ (view xs).origin) ⊎ (s ≢ (view xs).origin) → report_of (look xs (row_labels + s)) (look xs (row_lists + s)) ≡ report ((view xs).row s)
-    go (inl e) =
-        let i : (view xs).origin < (view xs).nodes = subst (λ y. y < (view xs).nodes) e h in
-        ap (λ y. report_of (look xs (row_labels + y)) (look xs (row_lists + y))) e ∙ ap₂ report_of (primed.label i) (primed.list i)
-        ∙ report_root (view xs).origin ∙ sym (ap report (read_origin xs s e ∙ ap (λ y. root (own y)) e))
-    go (inr n) =
-        sym (report_of_lem (look xs (row_labels + s)) (look xs (row_predecessors + s)) (look xs (row_lists + s))) ∙ ap report (read_relay xs s h n)
-
--- a store past the rows leaves the origin's words
-primed_set : (xs ys : List ℕ) → (view ys).nodes ≡ (view xs).nodes → (view ys).origin ≡ (view xs).origin
-    → ((k : ℕ) → k < arc_bits → look ys k ≡ look xs k) → Primed xs → Primed ys
-primed_set xs ys n o e p =
-    record {
-      label = λ h. let i : (view xs).origin < (view xs).nodes = omega (arith, n, o) in ap (λ y. look ys (row_labels + y)) o ∙ e
-          (row_labels + (view xs).origin) (omega (arith, few xs)) ∙ p.label i;
-      list = λ h. let i : (view xs).origin < (view xs).nodes = omega (arith, n, o) in
-          ap (λ y. look ys (row_lists + y)) o ∙ e (row_lists + (view xs).origin) (omega (arith, few xs)) ∙ p.list i ∙ ap own (sym o);
-    }
+-- what a node's words report
+word_report : (xs : List ℕ) (s : ℕ) → s < (view xs).nodes → report_of (look xs (row_labels + s)) (look xs (row_lists + s)) ≡ report ((by_words xs).row s)
+unfolding by_words
+word_report xs s h =
+    let n = (view xs).nodes in
+    (λ j. report_of (sym (word_in n (look xs) row_labels s h) j) (sym (word_in n (look xs) row_lists s h) j))
+    ∙ sym (report_of_lem (word n (look xs) row_labels s) (word n (look xs) row_predecessors s) (word n (look xs) row_lists s))
 
 -- two stores hear one arc
-module _ (xs : List ℕ) (size : length xs ≡ word_count) (primed : Primed xs) (s r : ℕ) where
+module _ (xs : List ℕ) (size : length xs ≡ word_count) (s r : ℕ) (hs : s < 32) (hr : r < 32) (t : Bool) (d l : ℕ) where
   abbrev at : ℕ
   at = r * 32 + s
 
-  abbrev stored : ℕ → ℕ → List ℕ
-  stored d l = set (set xs (held_labels + at) d) (held_lists + at) l
+  abbrev x₁ : List ℕ
+  x₁ = set xs (held_labels + at) d
 
-  -- a marked arc holds what its sender's row reports
-  heard : every_arc (view xs) s r ≡ true → (d l : ℕ) → d ≡ look xs (row_labels + s) → l ≡ look (set xs (held_labels + at) d) (row_lists + s)
-      → Hears (stored d l) (hear (one_mark s r true) (view xs))
-  unfolding every_arc
-  heard e d l p q =
-      record {
-        net = net;
-        primed = primed_set xs (stored d l) (ap (λ (x : Net). x.nodes) net ∙ hear_nodes _ _) (ap (λ (x : Net). x.origin) net ∙ hear_origin _ _) rows primed;
-      }
+  abbrev stored : List ℕ
+  stored = set x₁ (held_lists + at) l
+
+  away : (k : ℕ) → k ≢ held_labels + at → k ≢ held_lists + at → look stored k ≡ look xs k
+  away k a b = get_or-set_other x₁ (held_lists + at) k l 0 b ∙ get_or-set_other xs (held_labels + at) k d 0 a
+
+  before : (k : ℕ) → k < held_labels → look stored k ≡ look xs k
+  before k h = away k (λ e. omega arith) (λ e. omega arith)
+
+  label : look stored (held_labels + at) ≡ d
+  label =
+      get_or-set_other x₁ (held_lists + at) (held_labels + at) l 0 (λ e. omega arith)
+      ∙ get_or-set_same xs (held_labels + at) d 0 (omega (arith, size))
+
+  list : look stored (held_lists + at) ≡ l
+  list = get_or-set_same x₁ (held_lists + at) l 0 (omega (arith, size, length-set xs (held_labels + at) d))
+
+  pub hear_arc : d ≡ cond t (look xs (row_labels + s)) (look xs (held_labels + at)) → l ≡ cond t (look x₁ (row_lists + s)) (look x₁ (held_lists + at))
+      → by_words stored ≡ hear_arcs (one_mark s r t) (by_words xs)
+  unfolding hear_arcs hear one_mark every_arc by_words
+  hear_arc p q = reports_changed xs stored before _ (λ a b. go a b (bool_cases (Has xs a b)))
     where
-      arc : Has xs s r ≡ true
-      arc = arc_is xs s r ∙ e
+      -- the arc that is heard
+      here : Has xs s r ≡ true → (t : Bool) → d ≡ cond t (look xs (row_labels + s)) (look xs (held_labels + at)) → l ≡ cond t (look x₁ (row_lists + s)) (look x₁ (held_lists + at))
+          → report_of d l ≡ cond t (report ((by_words xs).row s)) ((view xs).held s r)
+      here e true p q =
+          let k = pair_says _ s r (present_pair _ (look xs) s r e) in
+          ap₂ report_of p (q ∙ get_or-set_other xs (held_labels + at) (row_lists + s) d 0 (λ z. omega arith)) ∙ word_report xs s k.0
+      here e false p q =
+          ap₂ report_of p (q ∙ get_or-set_other xs (held_labels + at) (held_lists + at) d 0 (λ z. omega arith)) ∙ read_held xs s r e
 
-      -- its sender is a node
-      ends : (s < (view xs).nodes) × (r < (view xs).nodes) × (s ≢ r)
-      ends = pair_says (view xs).nodes s r (present_pair (view xs).nodes (look xs) s r arc)
+      go : (a b : ℕ) → (Has xs a b ≡ true) ⊎ (Has xs a b ≡ false)
+          → (view stored).held a b ≡ cond ((eqb a s && (eqb b r && t)) && ltb 0 ((view xs).cost a b)) (report ((by_words xs).row a)) ((view xs).held a b)
+      go a b (inr e) =
+          held_none stored a b (has_same xs stored before a b ∙ e)
+          ∙ sym (rw (sym (arc_is xs a b) ∙ e, and-false (eqb a s && (eqb b r && t))) (held_none xs a b e))
+      go a b (inl e) =
+          let k = pair_says _ a b (present_pair _ (look xs) a b e) in
+          sym (read_held stored a b (has_same xs stored before a b ∙ e)) ∙ rw (sym (arc_is xs a b) ∙ e) (at_pair k (eq_or_ne a s) (eq_or_ne b r))
+        where
+          elsewhere : (a < (view xs).nodes) × (b < (view xs).nodes) × (a ≢ b) → (b * 32 + a ≢ at)
+              → report_of (look stored (held_labels + (b * 32 + a))) (look stored (held_lists + (b * 32 + a))) ≡ (view xs).held a b
+          elsewhere k n =
+              ap₂ report_of (away (held_labels + (b * 32 + a)) (λ z. n (omega arith)) (λ z. omega (arith, few xs)))
+              (away (held_lists + (b * 32 + a)) (λ z. omega arith) (λ z. n (omega arith)))
+              ∙ read_held xs a b e
 
-      list : l ≡ look xs (row_lists + s)
-      list = q ∙ get_or-set_other xs (held_labels + at) (row_lists + s) d 0 (λ e. omega (arith, ends, few xs))
-
-      new : report_of d l ≡ report ((view xs).row s)
-      new = ap₂ report_of p list ∙ read_report xs primed s ends.0
-
-      net : view (stored d l) ≡ hear (one_mark s r true) (view xs)
-      net =
-          store_report xs size s r (present_pair (view xs).nodes (look xs) s r arc) d l arc ∙ ap (with_held (view xs) s r) new ∙ hear_one (view xs) s r true
-
-      rows : (k : ℕ) → k < arc_bits → look (stored d l) k ≡ look xs k
-      rows k h =
-          get_or-set_other (set xs (held_labels + at) d) (held_lists + at) k l 0 (λ e. omega arith) ∙ get_or-set_other xs (held_labels + at) k d 0 (λ e. omega arith)
-
-  -- an unmarked one keeps its words
-  unheard : (d l : ℕ) → d ≡ look xs (held_labels + at) → l ≡ look (set xs (held_labels + at) d) (held_lists + at)
-      → Hears (stored d l) (hear (one_mark s r false) (view xs))
-  unfolding one_mark
-  unheard d l p q =
-      let a : set xs (held_labels + at) d ≡ xs = ap (set xs (held_labels + at)) p ∙ set-get_or xs (held_labels + at) 0 in
-      let b : stored d l ≡ xs = (λ j. set (a j) (held_lists + at) ((q ∙ ap (λ ys. look ys (held_lists + at)) a) j)) ∙ set-get_or xs (held_lists + at) 0 in
-      subst (λ ys. Hears ys (hear (one_mark s r false) (view xs))) (sym b)
-      (record { net = sym (hear_none _ (view xs) (λ a b. rw (and-false (eqb b r)) (and-false (eqb a s)))); primed = primed })
-
-  pub hear_arc : (t : Bool) (d l : ℕ) → OnArc xs s r t → d ≡ cond t (look xs (row_labels + s)) (look xs (held_labels + at))
-      → l ≡ cond t (look (set xs (held_labels + at) d) (row_lists + s)) (look (set xs (held_labels + at) d) (held_lists + at))
-      → Hears (stored d l) (hear (one_mark s r t) (view xs))
-  hear_arc true d l on p q = heard (on.arc refl) d l p q
-  hear_arc false d l on p q = unheard d l p q
+          at_pair : (a < (view xs).nodes) × (b < (view xs).nodes) × (a ≢ b) → (a ≡ s) ⊎ (a ≢ s) → (b ≡ r) ⊎ (b ≢ r)
+              → report_of (look stored (held_labels + (b * 32 + a))) (look stored (held_lists + (b * 32 + a)))
+              ≡ cond ((eqb a s && (eqb b r && t)) && true) (report ((by_words xs).row a)) ((view xs).held a b)
+          at_pair k (inl f) (inl g) =
+              let arc : Has xs s r ≡ true = sym (λ j. Has xs (f j) (g j)) ∙ e in
+              rw (f, g, eqb_same s, eqb_same r, and-true t) (ap₂ report_of label list ∙ here arc t p q)
+          at_pair k (inl f) (inr g) = rw (ne_eqb b r g, and-false (eqb a s)) (elsewhere k (λ z. omega (arith, few xs)))
+          at_pair k (inr f) g = rw (ne_eqb a s f) (elsewhere k (λ z. omega (arith, few xs)))
 
 -- ---- loops
-
--- hearing further marks, after those of m
-pub hears_next : (m m' m'' : Marks) (x : Net) (xs ys : List ℕ) → view xs ≡ hear m x → Hears ys (hear m' (view xs))
-    → ((s r : ℕ) → (m' s r || m s r) ≡ m'' s r) → Hears ys (hear m'' x)
-hears_next m m' m'' x xs ys e h same =
-    record { net = h.net ∙ ap (hear m') e ∙ hear_hear m' m x ∙ hear_ext _ m'' x same; primed = h.primed }
-
-pub hears_first : (m : Marks) (xs : List ℕ) → Primed xs → ((s r : ℕ) → m s r ≡ false) → Hears xs (hear m (view xs))
-hears_first m xs p e = record { net = sym (hear_none m (view xs) e); primed = p }
-
--- hearing changes no node
-pub node_kept : (m : Marks) (x : Net) (ys : List ℕ) (y : ℕ) → Hears ys (hear m x) → y < x.nodes → Node ys y
-node_kept m x ys y h b =
-    let e : (view ys).nodes ≡ x.nodes = ap (λ (z : Net). z.nodes) h.net ∙ hear_nodes m x in
-    record { below = omega arith; small = omega (arith, few ys) }
-
-pub nodes_kept : (m : Marks) (x : Net) (ys : List ℕ) (n : ℕ) → Hears ys (hear m x) → n ≡ x.nodes → Nodes ys n
-nodes_kept m x ys n h q =
-    let e : (view ys).nodes ≡ x.nodes = ap (λ (z : Net). z.nodes) h.net ∙ hear_nodes m x in
-    record { is = omega arith; few = omega (arith, few ys) }
-
-pub nodes_count : (xs : List ℕ) (n : ℕ) → n ≡ (view xs).nodes → Nodes xs n
-nodes_count xs n q = record { is = q; few = omega (arith, few xs) }
-
-pub nodes_same : (xs ps : List ℕ) (n : ℕ) → Hears ps (view xs) → n ≡ (view xs).nodes → Nodes ps n
-nodes_same xs ps n h q =
-    let e : (view ps).nodes ≡ (view xs).nodes = ap (λ (z : Net). z.nodes) h.net in
-    record { is = omega arith; few = omega (arith, few ps) }
-
--- the marks of the receivers up to k, from those below k and those of k
-rows_step : (f g : ℕ → ℕ → Bool) (k a b : ℕ) → (b ≡ k → f a b ≡ g a b) → ((eqb b k && f a b) || (ltb b k && g a b)) ≡ (ltb b (k + 1) && g a b)
-rows_step f g k a b e = go (eq_or_ne b k)
-  where
-    go : (b ≡ k) ⊎ (b ≢ k) → ((eqb b k && f a b) || (ltb b k && g a b)) ≡ (ltb b (k + 1) && g a b)
-    go (inl q) = rw (eq-eqb b k q, le-ltb b k (omega arith), lt-ltb b (k + 1) (omega arith), e q) (or-false (g a b))
-    go (inr n) = rw (ne_eqb b k n, ltb_other b k n)
 
 -- the marks of one receiver on the senders up to k, from those below k and that of k
 senders_step : (p : Bool) (g : ℕ → Bool) (k a : ℕ) → ((eqb a k && (p && g k)) || (p && (ltb a k && g a))) ≡ (p && (ltb a (k + 1) && g a))
@@ -204,134 +196,125 @@ senders_step p g k a = go p (eq_or_ne a k)
     go true (inl q) = rw (eq-eqb a k q, le-ltb a k (omega arith), lt-ltb a (k + 1) (omega arith), ap g q) (or-false (g k))
     go true (inr n) = rw (ne_eqb a k n, ltb_other a k n)
 
-pub row_unmarked : (r w a b : ℕ) → row_marks r w 0 a b ≡ false
+-- no sender is below 0
+pub row_begun : (r w : ℕ) (x : Net) → x ≡ hear_arcs (row_marks r w 0) x
 unfolding row_marks
-row_unmarked r w a b = rw (le-ltb a 0 (omega arith)) (and-false (eqb b r))
-
-row_step : (r w k a b : ℕ) → (one_mark k r (has w k) a b || row_marks r w k a b) ≡ row_marks r w (k + 1) a b
-unfolding row_marks one_mark
-row_step r w k a b = senders_step (eqb b r) (has w) k a
+row_begun r w x = hear_no_arcs _ x (λ a b. rw (le-ltb a 0 (omega arith)) (and-false (eqb b r)))
 
 -- one sender more, whose mark is t
-pub row_next : (xs ys zs : List ℕ) (r w k j : ℕ) (t : Bool) → t ≡ has w k → j ≡ k + 1 → Hears ys (hear (row_marks r w k) (view xs))
-    → Hears zs (hear (one_mark k r t) (view ys)) → Hears zs (hear (row_marks r w j) (view xs))
-row_next xs ys zs r w k j t e q h g =
-    hears_next (row_marks r w k) (one_mark k r t) (row_marks r w j) (view xs) ys zs h.net g
-    (λ a b. ap (λ u. one_mark k r u a b || row_marks r w k a b) e ∙ row_step r w k a b ∙ ap (λ i. row_marks r w i a b) (sym q))
+pub row_next : (x y z : Net) (r w k j : ℕ) (t : Bool) → t ≡ has w k → j ≡ k + 1 → y ≡ hear_arcs (row_marks r w k) x → z ≡ hear_arcs (one_mark k r t) y
+    → z ≡ hear_arcs (row_marks r w j) x
+unfolding row_marks one_mark
+row_next x y z r w k j t e q h g = hear_more _ _ _ x y z h g (λ a b. rw (e, q) (go (eqb b r) (has w) a (eq_or_ne a k)))
+  where
+    go : (p : Bool) (f : ℕ → Bool) (a : ℕ) → (a ≡ k) ⊎ (a ≢ k) → ((eqb a k && (p && f k)) || (p && (ltb a k && f a))) ≡ (p && (ltb a (k + 1) && f a))
+    go false f a h = rw (and-false (eqb a k))
+    go true f a (inl q) = rw (eq-eqb a k q, le-ltb a k (omega arith), lt-ltb a (k + 1) (omega arith), ap f q) (or-false (f k))
+    go true f a (inr n) = rw (ne_eqb a k n, ltb_other a k n)
 
--- senders without a mark
-pub row_gap : (r w j k : ℕ) → j ≤ k → ((i : ℕ) → j ≤ i → i < k → has w i ≡ false) → (a b : ℕ) → row_marks r w j a b ≡ row_marks r w k a b
+-- a sender without a mark
+pub row_passed : (x y : Net) (r w k : ℕ) → has w k ≡ false → y ≡ hear_arcs (row_marks r w k) x → y ≡ hear_arcs (row_marks r w (k + 1)) x
 unfolding row_marks
-row_gap r w j k h none_has a b = ap (◌&&◌ (eqb b r)) (go (le_or_lt j a) (le_or_lt k a))
+row_passed x y r w k e h = h ∙ hear_arcs_ext _ _ x (λ a b _. ap (◌&&◌ (eqb b r)) (go a (eq_or_ne a k)))
   where
-    go : (j ≤ a) ⊎ (a < j) → (k ≤ a) ⊎ (a < k) → (ltb a j && has w a) ≡ (ltb a k && has w a)
-    go (inl low) (inl high) = rw (le-ltb a j low, le-ltb a k high)
-    go (inl low) (inr high) = rw (le-ltb a j low, lt-ltb a k high) (sym (none_has a low high))
-    go (inr low) (inl high) = absurd (omega arith)
-    go (inr low) (inr high) = rw (lt-ltb a j low, lt-ltb a k high)
+    go : (a : ℕ) → (a ≡ k) ⊎ (a ≢ k) → (ltb a k && has w a) ≡ (ltb a (k + 1) && has w a)
+    go a (inl q) = rw (q, e, and-false (ltb k k), and-false (ltb k (k + 1)))
+    go a (inr n) = rw (ltb_other a k n)
 
--- no mark is on a sender that is no node
-pub row_rest : (xs : List ℕ) (r w n k : ℕ) → n ≡ (view xs).nodes → n ≤ k → k ≤ 32 → OnArcs xs r w
-    → ((s r : ℕ) → ((view xs).nodes ≤ s) ⊎ ((view xs).nodes ≤ r) → every_arc (view xs) s r ≡ false) → (a b : ℕ) → row_marks r w k a b ≡ row_marks r w 32 a b
+-- no arc is from a sender that is no node
+arcs_within : (xs : List ℕ) (s r : ℕ) → every_arc (by_words xs) s r ≡ true → (s < (view xs).nodes) × (r < (view xs).nodes)
+unfolding every_arc by_words
+arcs_within xs s r e =
+    let k = pair_says _ s r (present_pair _ (look xs) s r (arc_is xs s r ∙ e)) in
+    (k.0, k.1)
+
+-- all senders that are nodes were heard
+pub row_done : (xs : List ℕ) (y : Net) (r w k : ℕ) → (view xs).nodes ≤ k → k ≤ 32 → y ≡ hear_arcs (row_marks r w k) (by_words xs) → y ≡ hear_arcs (row_marks r w 32) (by_words xs)
 unfolding row_marks
-row_rest xs r w n k is low high on beyond a b = ap (◌&&◌ (eqb b r)) (go (le_or_lt k a) (le_or_lt 32 a) (bool_cases (has w a)))
+row_done xs y r w k low high h =
+    h ∙ hear_arcs_ext _ _ (by_words xs) (λ a b e. let i = arcs_within xs a b e in rw (lt-ltb a k (omega arith), lt-ltb a 32 (omega arith)))
+
+-- ---- receiver by receiver
+
+-- the marks of the receivers below k
+abbrev pub up_to : Marks → ℕ → Marks
+up_to m k s y = ltb y k && m s y
+
+pub rows_begun : (m : Marks) (x : Net) → x ≡ hear_arcs (up_to m 0) x
+rows_begun m x = hear_no_arcs _ x (λ a b. rw (le-ltb b 0 (omega arith)))
+
+-- one receiver more, whose word has its marks
+pub rows_next : (xs : List ℕ) (y z : Net) (m : Marks) (k w : ℕ) → ((s : ℕ) → s < 32 → has w s ≡ m s k) → y ≡ hear_arcs (up_to m k) (by_words xs)
+    → z ≡ hear_arcs (row_marks k w 32) y → z ≡ hear_arcs (up_to m (k + 1)) (by_words xs)
+unfolding row_marks
+rows_next xs y z m k w bits h g =
+    hear_more (up_to m k) (λ a b. eqb b k && m a b) _ (by_words xs) y z h (g ∙ hear_arcs_ext _ _ y here) (λ a b. go a b (eq_or_ne b k))
   where
-    go : (k ≤ a) ⊎ (a < k) → (32 ≤ a) ⊎ (a < 32) → (has w a ≡ true) ⊎ (has w a ≡ false) → (ltb a k && has w a) ≡ (ltb a 32 && has w a)
-    go (inr h) (inl j) e = absurd (omega arith)
-    go (inr h) (inr j) e = rw (lt-ltb a k h, lt-ltb a 32 j)
-    go (inl h) (inl j) e = rw (le-ltb a k h, le-ltb a 32 j)
-    go (inl h) (inr j) (inl e) = never (every_arc (view xs) a r) (on.arc a j e) (beyond a r (inl (omega arith)))
-    go (inl h) (inr j) (inr e) = rw (e, and-false (ltb a k), and-false (ltb a 32))
+    here : (a b : ℕ) → every_arc y a b ≡ true → row_marks k w 32 a b ≡ (eqb b k && m a b)
+    here a b e = of (eq_or_ne b k)
+      where
+        small : a < 32
+        small = let i = arcs_within xs a b (sym (arcs_kept _ (by_words xs) y h a b) ∙ e) in omega (arith, few xs)
 
--- ---- marks on arcs
+        of : (b ≡ k) ⊎ (b ≢ k) → (eqb b k && (ltb a 32 && has w a)) ≡ (eqb b k && m a b)
+        of (inl q) = rw (eq-eqb b k q, lt-ltb a 32 small) (bits a small ∙ ap (m a) (sym q))
+        of (inr n) = rw (ne_eqb b k n)
 
--- hearing changes no arc
-arc_kept : (m : Marks) (x : Net) (ys : List ℕ) (s r : ℕ) → Hears ys (hear m x) → every_arc (view ys) s r ≡ every_arc x s r
-unfolding every_arc
-arc_kept m x ys s r h = ap (λ (z : Net). ltb 0 (z.cost s r)) h.net ∙ ap (λ f. ltb 0 (f s r)) (hear_cost m x)
+    go : (a b : ℕ) → (b ≡ k) ⊎ (b ≢ k) → ((eqb b k && m a b) || (ltb b k && m a b)) ≡ (ltb b (k + 1) && m a b)
+    go a b (inl q) = rw (eq-eqb b k q, le-ltb b k (omega arith), lt-ltb b (k + 1) (omega arith)) (or-false (m a b))
+    go a b (inr n) = rw (ne_eqb b k n, ltb_other b k n)
 
--- a bit of a word that lies on arcs
-pub bit_on : (m : Marks) (xs ys : List ℕ) (s r w : ℕ) → Hears ys (hear m (view xs)) → s < 32 → OnArcs xs r w → OnArc ys s r (has w s)
-bit_on m xs ys s r w h b on = record { arc = λ e. arc_kept m (view xs) ys s r h ∙ on.arc s b e }
+-- every receiver that is a node has heard
+pub rows_done : (xs : List ℕ) (y : Net) (m : Marks) (k : ℕ) → (view xs).nodes ≤ k → y ≡ hear_arcs (up_to m k) (by_words xs) → y ≡ hear_arcs m (by_words xs)
+rows_done xs y m k low h = h ∙ hear_arcs_ext _ _ (by_words xs) (λ a b e. let i = arcs_within xs a b e in rw (lt-ltb b k (omega arith)))
 
--- ---- the arcs that are heard, by receiver
+-- ---- the words of a receiver
 
-given_ext : (x y : Net) (full : Bool) (ms : List ℕ) (s r : ℕ) → every_arc x s r ≡ every_arc y s r → given x full ms s r ≡ given y full ms s r
-unfolding given
-given_ext x y true ms s r e = e
-given_ext x y false ms s r e = refl
+-- its marks
+pub marks_bits : (x : Net) (o : Option (List ℕ)) (ms : List ℕ) (r w : ℕ) → o ≡ Some ms → r < 32 → w ≡ get_or ms r 0 → (s : ℕ) → s < 32 → has w s ≡ given x o s r
+unfolding given marked
+marks_bits x o ms r w p k e s h = rw (e, p, lt-ltb s 32 h, lt-ltb r 32 k)
 
--- those of the receivers below k
-abbrev pub up_to : Net → Bool → List ℕ → ℕ → Marks
-up_to x full ms k s y = ltb y k && given x full ms s y
+-- in a full round its arcs, which stay while others hear
+pub arcs_bits : (m : Marks) (xs ys : List ℕ) (o : Option (List ℕ)) (r w : ℕ) → o ≡ None → by_words ys ≡ hear_arcs m (by_words xs) → w ≡ arcs_to (view ys) r
+    → (s : ℕ) → s < 32 → has w s ≡ given (view xs) o s r
+unfolding given every_arc by_words
+arcs_bits m xs ys o r w p h e s k = rw (e, p) (arcs_exact (view ys) r s k ∙ arcs_kept m (by_words xs) (by_words ys) h s r)
 
-pub up_none : (x : Net) (full : Bool) (ms : List ℕ) (s r : ℕ) → up_to x full ms 0 s r ≡ false
-up_none x full ms s r = rw (le-ltb r 0 (omega arith))
+-- ---- the origin's words
 
--- some heard, they are given as before
-pub given_kept : (m : Marks) (xs ys : List ℕ) (full : Bool) (ms : List ℕ) → Hears ys (hear m (view xs)) → Given xs full ms → Given ys full ms
-given_kept m xs ys full ms h g =
-    record {
-      arc = λ s r e. let q = arc_kept m (view xs) ys s r h in q ∙ g.arc s r (sym (given_ext (view ys) (view xs) full ms s r q) ∙ e);
-      long = g.long;
-    }
+-- a network whose origin has the origin's row
+abbrev rooted : Net → Net
+rooted x = with_rows x (λ y. cond (eqb y x.origin) (root (own x.origin)) (x.row y))
 
--- in words that give the same network too
-pub given_same : (xs ps : List ℕ) (full : Bool) (ms : List ℕ) → Hears ps (view xs) → Given xs full ms → Given ps full ms
-given_same xs ps full ms h g =
-    record {
-      arc = λ s r. subst (λ (x : Net). given x full ms s r ≡ true → every_arc x s r ≡ true) (sym h.net) (g.arc s r);
-      long = g.long;
-    }
+view_rooted : (xs : List ℕ) → rooted (by_words xs) ≡ view xs
+unfolding by_words view net_of node_row
+view_rooted xs = refl
 
-module _ (m : Marks) (xs ys : List ℕ) (full : Bool) (ms : List ℕ) (r w : ℕ) (h : Hears ys (hear m (view xs))) (g : Given xs full ms)
-    (word : RowWord (view ys) full ms r w) where
-  -- the word's bits are those heard
-  bit_given : (s : ℕ) → s < 32 → has w s ≡ given (view xs) full ms s r
-  bit_given s b = word.bit s b ∙ given_ext (view ys) (view xs) full ms s r (arc_kept m (view xs) ys s r h)
-
-  pub word_on : OnArcs ys r w
-  word_on = record { arc = λ s b e. arc_kept m (view xs) ys s r h ∙ g.arc s r (sym (bit_given s b) ∙ e) }
-
-  -- one receiver more
-  pub up_step : ((s r : ℕ) → ((view xs).nodes ≤ s) ⊎ ((view xs).nodes ≤ r) → every_arc (view xs) s r ≡ false)
-      → (a b : ℕ) → (row_marks r w 32 a b || up_to (view xs) full ms r a b) ≡ up_to (view xs) full ms (r + 1) a b
-  unfolding row_marks
-  up_step beyond a b = rows_step (λ a b. ltb a 32 && has w a) (given (view xs) full ms) r a b (λ e. go (le_or_lt 32 a) (ap (given (view xs) full ms a) e))
-    where
-      none : 32 ≤ a → (given (view xs) full ms a r ≡ true) ⊎ (given (view xs) full ms a r ≡ false) → given (view xs) full ms a r ≡ false
-      none k (inl e) = never (every_arc (view xs) a r) (g.arc a r e) (beyond a r (inl (omega (arith, few xs))))
-      none k (inr e) = e
-
-      go : (32 ≤ a) ⊎ (a < 32) → given (view xs) full ms a b ≡ given (view xs) full ms a r → (ltb a 32 && has w a) ≡ given (view xs) full ms a b
-      go (inl k) q = rw (le-ltb a 32 k) (sym (q ∙ none k (bool_cases (given (view xs) full ms a r))))
-      go (inr k) q = rw (lt-ltb a 32 k) (bit_given a k ∙ sym q)
-
--- all of them
-pub up_all : (xs : List ℕ) (full : Bool) (ms : List ℕ) → Given xs full ms
-    → ((s r : ℕ) → ((view xs).nodes ≤ s) ⊎ ((view xs).nodes ≤ r) → every_arc (view xs) s r ≡ false)
-    → (s r : ℕ) → up_to (view xs) full ms (view xs).nodes s r ≡ given (view xs) full ms s r
-up_all xs full ms g beyond s r = go (bool_cases (given (view xs) full ms s r)) (le_or_lt n r)
+-- hearing in primed words
+pub heard : (xs ps ys : List ℕ) (m : Marks) → Primed xs ps → by_words ys ≡ hear_arcs m (by_words ps) → ((s r : ℕ) → m s r ≡ true → every_arc (view ps) s r ≡ true)
+    → view ys ≡ hear m (view xs)
+unfolding hear_arcs hear every_arc by_words
+heard xs ps ys m p e on =
+    sym (view_rooted ys) ∙ ap rooted e ∙ same_net _ _ refl (λ s r. refl) (λ y. ap (λ (x : Net). x.row y) (view_rooted ps)) (λ s r. go s r (m s r) refl)
+    ∙ ap (hear m) p.net
   where
-    n : ℕ
-    n = (view xs).nodes
+    go : (s r : ℕ) (t : Bool) → m s r ≡ t → cond (t && every_arc (by_words ps) s r) (report ((by_words ps).row s)) ((by_words ps).held s r) ≡ cond t (report ((view ps).row s)) ((view ps).held s r)
+    go s r true q = let arc = on s r q in rw arc (p.reports s (arcs_within ps s r arc).0)
+    go s r false q = refl
 
-    go : (given (view xs) full ms s r ≡ true) ⊎ (given (view xs) full ms s r ≡ false) → (n ≤ r) ⊎ (r < n) → (ltb r n && given (view xs) full ms s r) ≡ given (view xs) full ms s r
-    go (inl e) (inl k) = never (every_arc (view xs) s r) (g.arc s r e) (beyond s r (inr k))
-    go (inl e) (inr k) = rw (lt-ltb r n k)
-    go (inr e) k = rw (e, and-false (ltb r n))
+report_root : (o : ℕ) → report_of 0 (own o) ≡ report (root (own o))
+unfolding report report_of
+report_root o = rw (ne_eqb (own o) 0 (put_some 0 o))
 
--- ---- the origin's words set
+-- a relay's words are its row
+relay_words : (xs : List ℕ) (s : ℕ) → s ≢ (view xs).origin → (by_words xs).row s ≡ (view xs).row s
+unfolding by_words
+relay_words xs s n = sym (rw (ne_eqb s (view xs).origin n) at (ap (λ (x : Net). x.row s) (sym (view_rooted xs))))
+
 module _ (xs : List ℕ) (size : length xs ≡ word_count) (y l : ℕ) (e : y ≡ (view xs).origin) (h : y < (view xs).nodes) where
-  pub primes : l ≡ own y → Hears (set (set xs (row_labels + y) 0) (row_lists + y) l) (view xs)
-  primes q =
-      record {
-        net = same;
-        primed = record {
-          label = λ _. ap (λ z. look zs (row_labels + z)) (o ∙ sym e) ∙ label;
-          list = λ _. ap (λ z. look zs (row_lists + z)) (o ∙ sym e) ∙ list ∙ q ∙ ap own (sym (o ∙ sym e));
-        };
-      }
+  pub primes : l ≡ own y → Primed xs (set (set xs (row_labels + y) 0) (row_lists + y) l)
+  primes q = record { net = same; reports = λ s b. go s b (eq_or_ne s y) }
     where
       x₁ : List ℕ
       x₁ = set xs (row_labels + y) 0
@@ -344,11 +327,8 @@ module _ (xs : List ℕ) (size : length xs ≡ word_count) (y l : ℕ) (e : y �
           ap (λ ws. view (set ws (row_lists + y) l)) (sym (set-get_or x₁ (row_predecessors + y) 0))
           ∙ store_origin xs size y 0 (look x₁ (row_predecessors + y)) l h e
 
-      o : (view zs).origin ≡ (view xs).origin
-      o = ap (λ (x : Net). x.origin) same
-
-      long : length x₁ ≡ word_count
-      long = length-set xs (row_labels + y) 0 ∙ size
+      o : y ≡ (view zs).origin
+      o = e ∙ sym (ap (λ (x : Net). x.origin) same)
 
       label : look zs (row_labels + y) ≡ 0
       label =
@@ -356,8 +336,14 @@ module _ (xs : List ℕ) (size : length xs ≡ word_count) (y l : ℕ) (e : y �
           ∙ get_or-set_same xs (row_labels + y) 0 0 (omega (arith, few xs, size))
 
       list : look zs (row_lists + y) ≡ l
-      list = get_or-set_same x₁ (row_lists + y) l 0 (omega (arith, few xs, long))
+      list = get_or-set_same x₁ (row_lists + y) l 0 (omega (arith, few xs, size, length-set xs (row_labels + y) 0))
 
--- where the origin is no node, nothing is asked of its words
-pub unprimed : (xs : List ℕ) → (view xs).nodes ≤ (view xs).origin → Hears xs (view xs)
-unprimed xs h = record { net = refl; primed = record { label = λ k. absurd (omega arith); list = λ k. absurd (omega arith) } }
+      go : (s : ℕ) → s < (view zs).nodes → (s ≡ y) ⊎ (s ≢ y) → report ((by_words zs).row s) ≡ report ((view zs).row s)
+      go s b (inl k) =
+          sym (word_report zs s b) ∙ ap (λ z. report_of (look zs (row_labels + z)) (look zs (row_lists + z))) k ∙ ap₂ report_of label (list ∙ q)
+          ∙ report_root y ∙ sym (ap report (read_origin zs s (k ∙ o) ∙ ap (λ z. root (own z)) k))
+      go s b (inr n) = ap report (relay_words zs s (λ z. n (z ∙ sym o)))
+
+-- where the origin is no node, its words play no part
+pub unprimed : (xs : List ℕ) → (view xs).nodes ≤ (view xs).origin → Primed xs xs
+unprimed xs h = record { net = refl; reports = λ s b. ap report (relay_words xs s (λ e. omega arith)) }

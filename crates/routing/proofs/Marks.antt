@@ -4,22 +4,28 @@ use mathlib.Core.Path.{◌≡◌, refl, sym, ap, ap₂, ◌∙◌}
 use mathlib.Core.Bool.{Bool, true, false, not, ◌&&◌}
 use mathlib.Core.Logic.{◌⊎◌, inl, inr}
 use mathlib.Core.List.{List}
-use Prim.Native.Nat.{ℕ, ◌<◌, ◌≤◌}
+use Prim.Native.Nat.{ℕ, ◌+◌, ◌<◌, ◌≤◌}
 use native.Mathlib.Omega.{arith}
+use lib.Bits.{bit_and}
+use Rattle.std.proofs.lemmas.Nat.{and_comm, and_mask}
+use Rattle.std.proofs.lemmas.List.{get_or-replicate}
+use Rattle.std.proofs.Math.Nat.{mod-eq_of_lt}
 use lib.Dec.{eqb}
-use lib.ListN.{length, get_or}
+use lib.ListN.{length, get_or, replicate}
 use borrow.Author.Tests.{lt-ltb, eqb-false}
 use Rattle.ancestors.specs.Ancestors.{has}
 use Rattle.ancestors.proofs.Cases.{bool_cases, never}
 use Rattle.network.specs.Faults.{pair_fault_of}
 use Rattle.network.specs.Round.{marked, stray_mark, idle_mark, every_arc}
 use Rattle.network.specs.Network.{Net}
-use Rattle.network.specs.Arcs.{arcs_to}
-use Rattle.network.proofs.Arcs.{arcs_exact, stray_bit, some_cost}
+use Rattle.network.specs.Arcs.{arcs_to, senders}
+use Rattle.network.proofs.Arcs.{arcs_exact, stray_bit, some_cost, senders_fit}
 use Rattle.network.proofs.Marking.{some_ext, some_none, marked_fails}
-use Rattle.memory.specs.Layout.{look, view}
+use Rattle.memory.specs.Layout.{word_count, look, view, arc_bits}
+use Rattle.memory.proofs.ArcLaws.{arcs_word}
 use Rattle.memory.proofs.Store.{present_out, arc_is, arc_beyond}
-use Rattle.routing.specs.Inner.{Given, RowWord, given, outside, stray_rows, idle_rows}
+use Rattle.routing.proofs.Renewing.{part, part_at}
+use Rattle.routing.specs.Inner.{outside, stray_rows, idle_rows, outside_rows}
 
 -- ---- refusals
 
@@ -40,7 +46,7 @@ idle_agrees x ms =
 
 module _ (xs ms : List ℕ) (e : idle_mark (view xs).cost (marked ms) ≡ false) where
   -- no mark is without an arc
-  on_arc : (s r : ℕ) → marked ms s r ≡ true → every_arc (view xs) s r ≡ true
+  pub on_arc : (s r : ℕ) → marked ms s r ≡ true → every_arc (view xs) s r ≡ true
   unfolding idle_mark every_arc
   on_arc s r m =
       let k = eqb-false ((view xs).cost s r) 0 (marked_fails ms (λ s r. eqb ((view xs).cost s r) 0) e s r m) in
@@ -57,28 +63,19 @@ module _ (xs ms : List ℕ) (e : idle_mark (view xs).cost (marked ms) ≡ false)
       go s r (inl m) (inr f) = rw (m, f)
       go s r (inl m) (inl f) = never _ (on_arc s r m) (sym (arc_is xs s r) ∙ present_out (view xs).nodes (look xs) s r f)
 
-  pub marks_given : length ms ≡ 32 → Given xs false ms
-  unfolding given
-  marks_given long = record { arc = on_arc; long = λ _. long }
+-- ---- marks tested against words
 
-pub arcs_given : (xs ms : List ℕ) → Given xs true ms
-unfolding given
-arcs_given xs ms = record { arc = λ s r e. e; long = λ z. never true refl z }
+-- against words of ones
+pub stray_words : (n : ℕ) (ms : List ℕ) → outside_rows n ms (replicate 32 4294967295) 32 ≡ stray_rows n ms 32
+unfolding outside_rows stray_rows
+stray_words n ms =
+    some_ext _ _ 32
+    (λ r k. ap (outside (get_or ms r 0)) (ap (λ v. bit_and v (senders n r)) (get_or-replicate 32 r 4294967295 0 k) ∙ and_comm 4294967295 (senders n r)
+    ∙ and_mask (senders n r) 32 ∙ mod-eq_of_lt (senders_fit n r)))
 
--- an arc joins nodes
-pub beyond : (xs : List ℕ) (s r : ℕ) → ((view xs).nodes ≤ s) ⊎ ((view xs).nodes ≤ r) → every_arc (view xs) s r ≡ false
-unfolding every_arc
-beyond xs s r h = sym (arc_is xs s r) ∙ arc_beyond xs s r h
-
--- ---- the word of a receiver
-
--- in a full round its arcs
-pub row_arcs : (xs : List ℕ) (full : Bool) (ms : List ℕ) (r w : ℕ) → full ≡ true → w ≡ arcs_to (view xs) r → RowWord (view xs) full ms r w
-unfolding given
-row_arcs xs full ms r w t e =
-    record { bit = λ s h. ap (λ v. has v s) e ∙ arcs_exact (view xs) r s h ∙ sym (ap (λ b. given (view xs) b ms s r) t) }
-
--- else its marks
-pub row_marks_lem : (xs : List ℕ) (full : Bool) (ms : List ℕ) (r : ℕ) → r < 32 → full ≡ false → RowWord (view xs) full ms r (get_or ms r 0)
-unfolding given
-row_marks_lem xs full ms r k t = record { bit = λ s h. mark_is ms s r h k ∙ sym (ap (λ b. given (view xs) b ms s r) t) }
+-- against the stored words of arcs
+pub idle_words : (xs : List ℕ) (n : ℕ) (ms : List ℕ) → length xs ≡ word_count → n ≡ (view xs).nodes
+    → outside_rows n ms (part xs arc_bits 32) 32 ≡ idle_rows (view xs) ms 32
+unfolding outside_rows idle_rows
+idle_words xs n ms size is =
+    some_ext _ _ 32 (λ r k. ap (outside (get_or ms r 0)) (ap (λ v. bit_and v (senders n r)) (part_at xs arc_bits 32 (omega arith) r k) ∙ arcs_word xs n r is))

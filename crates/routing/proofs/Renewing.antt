@@ -25,8 +25,6 @@ use Rattle.network.specs.declared.Fault.{Fault}
 use Rattle.network.specs.declared.Route.{Route}
 use Rattle.network.proofs.Choosing.{choice_ext, came}
 use Rattle.memory.specs.Layout.{word_count, row_of, look, view, arc_bits, arc_costs, held_labels, held_lists}
-use Rattle.memory.specs.Inner.{Node}
-use Rattle.routing.specs.Inner.{Nodes}
 use Rattle.network.proofs.Effects.{same_rows}
 use Rattle.memory.proofs.Laws.{few}
 use Rattle.memory.proofs.Store.{Has, present_in, present_out, cost_by, held_by}
@@ -41,7 +39,7 @@ module _ (xs : List ℕ) (c n : ℕ) (h : c + n ≤ length xs) where
   part_length : length (part xs c n) ≡ n
   part_length = simp (length-take, length-drop) (omega arith)
 
-  part_at : (s : ℕ) → s < n → get_or (part xs c n) s 0 ≡ look xs (c + s)
+  pub part_at : (s : ℕ) → s < n → get_or (part xs c n) s 0 ≡ look xs (c + s)
   part_at s b = get_or-take (c + n - c) (drop c xs) s 0 (omega arith) ∙ get_or-drop c xs s 0
 
 -- the word of y's arcs without its own bit says which of them are present
@@ -90,14 +88,15 @@ module _ (xs : List ℕ) (size : length xs ≡ word_count) (n y : ℕ) (is : n �
   held_at s h =
       (λ j. cond (arc_at_lem xs n y is below arcs bits s h j) (report_of (word_at held_labels (omega arith) s h j) (word_at held_lists (omega arith) s h j)) empty) ∙ held_by xs s y
 
-  pub choose_words : choose_of arcs costs labels lists y ≡ chosen (choice n (λ s. (view xs).cost s y) (λ s. (view xs).held s y) y)
+  pub choose_words : choose_of arcs costs labels lists y ≡ chosen (choice (view xs).nodes (λ s. (view xs).cost s y) (λ s. (view xs).held s y) y)
   unfolding choose_of words_fault
   choose_words =
       let a = part_length xs (arc_costs + y * 32) n (room arc_costs (omega arith)) in
       let b = part_length xs (held_labels + y * 32) n (room held_labels (omega arith)) in
       let d = part_length xs (held_lists + y * 32) n (room held_lists (omega arith)) in
       rw (a, b, d, le-ltb 32 n (omega (arith, few xs)), eqb_same n, lt-leb 32 y (omega (arith, few xs)))
-      (ap chosen (choice_ext n (costs_of arcs costs) (λ s. (view xs).cost s y) (reports arcs labels lists) (λ s. (view xs).held s y) y cost_at held_at))
+      (ap chosen (choice_ext n (costs_of arcs costs) (λ s. (view xs).cost s y) (reports arcs labels lists) (λ s. (view xs).held s y) y cost_at held_at)
+      ∙ ap (λ k. chosen (choice k (λ s. (view xs).cost s y) (λ s. (view xs).held s y) y)) is)
 
 -- ---- the words of a choice are those of the chosen row
 
@@ -149,25 +148,20 @@ renewed_origin x k o = same_rows x (λ y. go y (eq_or_ne y k))
 
 -- ---- the loop over receivers: ys has the rows of xs renewed below k
 module _ (xs ys : List ℕ) (k : ℕ) (e : view ys ≡ renew_to k (view xs)) where
-  same_nodes : (view ys).nodes ≡ (view xs).nodes
+  pub renewing_nodes : (view ys).nodes ≡ (view xs).nodes
   unfolding renew_to
-  same_nodes = ap (λ (x : Net). x.nodes) e
+  renewing_nodes = ap (λ (x : Net). x.nodes) e
 
   pub renewing_origin : (view ys).origin ≡ (view xs).origin
   unfolding renew_to
   renewing_origin = ap (λ (x : Net). x.origin) e
 
-  pub renewing_nodes : (n : ℕ) → n ≡ (view xs).nodes → Nodes ys n
-  renewing_nodes n q = record { is = q ∙ sym same_nodes; few = omega (arith, few xs) }
+  pub renewing_next : (zs : List ℕ) → k ≢ (view xs).origin
+      → view zs ≡ with_row (view ys) k (choice (view ys).nodes (λ s. (view ys).cost s k) (λ s. (view ys).held s k) k) → view zs ≡ renew_to (k + 1) (view xs)
+  unfolding renew_to
+  renewing_next zs o h =
+      h ∙ (λ j. with_row (e j) k (choice (e j).nodes (λ s. (e j).cost s k) (λ s. (e j).held s k) k)) ∙ renewed_step (view xs) k o
 
-  pub renewing_node : (y : ℕ) → y < (view xs).nodes → Node ys y
-  renewing_node y h = record { below = omega (arith, same_nodes); small = omega (arith, few xs) }
-
-  pub renewing_next : (zs : List ℕ) (n : ℕ) → n ≡ (view xs).nodes → k ≢ (view xs).origin
-      → view zs ≡ with_row (view ys) k (choice n (λ s. (view ys).cost s k) (λ s. (view ys).held s k) k) → view zs ≡ renew_to (k + 1) (view xs)
-  renewing_next zs n q o h =
-      h ∙ (λ j. with_row (e j) k (choice (q j) (λ s. (e j).cost s k) (λ s. (e j).held s k) k)) ∙ renewed_step (view xs) k o
-
-pub renewing_done : (xs ys : List ℕ) (k n : ℕ) → n ≡ (view xs).nodes → k ≡ n → view ys ≡ renew_to k (view xs) → view ys ≡ renew (view xs)
+pub renewing_done : (xs ys : List ℕ) (k : ℕ) → k ≡ (view xs).nodes → view ys ≡ renew_to k (view xs) → view ys ≡ renew (view xs)
 unfolding renew
-renewing_done xs ys k n q e h = h ∙ ap (λ m. renew_to m (view xs)) (e ∙ q)
+renewing_done xs ys k e h = h ∙ ap (λ m. renew_to m (view xs)) e

@@ -1,47 +1,32 @@
 -- What the private functions do: the parts of a round.
 -- Assumes nothing.
-use Rattle.std.specs.Prelude.{◌≡◌, Bool, true, false, cond, not, ◌&&◌, List, ℕ, ◌+◌, ◌<◌, ◌≤◌, eqb, ltb, length, get_or}
-use Rattle.ancestors.specs.Ancestors.{has, own}
-use Rattle.network.specs.Network.{Net}
-use Rattle.network.specs.Round.{Marks, marked, some, every_arc}
+use Rattle.std.specs.Prelude.{◌≡◌, Bool, not, ◌&&◌, List, Option, Some, None, ℕ, ◌<◌, eqb, ltb, get_or}
+use Rattle.std.specs.Int.Bits.{bit_and}
+use Rattle.ancestors.specs.Ancestors.{has}
+use Rattle.network.specs.Network.{Net, with_rows}
+use Rattle.network.specs.Round.{Marks, report, hear, marked, some, every_arc}
 use Rattle.network.specs.Arcs.{arcs_to, senders}
-use Rattle.memory.specs.Layout.{look, view, row_labels, row_lists}
+use Rattle.memory.specs.Layout.{word, row_of, look, view, row_labels, row_predecessors, row_lists}
 
--- n is the number of nodes
-pub record Nodes (xs : List ℕ) (n : ℕ) : Type 0 where
-  pub is : n ≡ (view xs).nodes
-  pub few : n ≤ 32
+-- the network with every row as the words say: the origin's too, which is not read from memory, but which hearing copies
+unfoldable pub by_words : List ℕ → Net
+by_words xs =
+    let n = (view xs).nodes in
+    with_rows (view xs) (λ y. row_of (word n (look xs) row_labels y) (word n (look xs) row_predecessors y) (word n (look xs) row_lists y))
 
--- the origin's words in memory, which hearing copies, are those of its row
-pub record Primed (xs : List ℕ) : Type 0 where
-  pub label : (view xs).origin < (view xs).nodes → look xs (row_labels + (view xs).origin) ≡ 0
-  pub list : (view xs).origin < (view xs).nodes → look xs (row_lists + (view xs).origin) ≡ own (view xs).origin
+-- words that give the same network, in which every node's row reports what it does in the network
+pub record Primed (xs ys : List ℕ) : Type 0 where
+  pub net : view ys ≡ view xs
+  pub reports : (s : ℕ) → s < (view ys).nodes → report ((by_words ys).row s) ≡ report ((view ys).row s)
 
--- the words give the network x, and the origin's among them are those of its row
-pub record Hears (xs : List ℕ) (x : Net) : Type 0 where
-  pub net : view xs ≡ x
-  pub primed : Primed xs
+-- those marks heard that are on arcs
+unfoldable pub hear_arcs : Marks → Net → Net
+hear_arcs m x = hear (λ s r. m s r && every_arc x s r) x
 
--- where t holds, the arc from s to r is present
-pub record OnArc (xs : List ℕ) (s r : ℕ) (t : Bool) : Type 0 where
-  pub arc : t ≡ true → every_arc (view xs) s r ≡ true
-
--- every bit of the word w is an arc to r
-pub record OnArcs (xs : List ℕ) (r w : ℕ) : Type 0 where
-  pub arc : (s : ℕ) → s < 32 → has w s ≡ true → every_arc (view xs) s r ≡ true
-
--- the arcs that are heard: all of them in a full round, and else those marked
-unfoldable pub given : Net → Bool → List ℕ → Marks
-given x full ms = cond full (every_arc x) (marked ms)
-
--- they are arcs, and marks are 32 words
-pub record Given (xs : List ℕ) (full : Bool) (ms : List ℕ) : Type 0 where
-  pub arc : (s r : ℕ) → given (view xs) full ms s r ≡ true → every_arc (view xs) s r ≡ true
-  pub long : full ≡ false → length ms ≡ 32
-
--- the word w has a bit for each sender that r hears
-pub record RowWord (x : Net) (full : Bool) (ms : List ℕ) (r w : ℕ) : Type 0 where
-  pub bit : (s : ℕ) → s < 32 → has w s ≡ given x full ms s r
+-- the arcs that are heard: those marked, and all of them in a full round
+unfoldable pub given : Net → Option (List ℕ) → Marks
+given x None = every_arc x
+given x (Some ms) = marked ms
 
 -- the pair s, r alone, where t holds
 unfoldable pub one_mark : ℕ → ℕ → Bool → Marks
@@ -62,3 +47,7 @@ stray_rows n ms k = some (λ r. outside (get_or ms r 0) (senders n r)) k
 -- a mark of a receiver below k is not in the word of its arcs
 unfoldable pub idle_rows : Net → List ℕ → ℕ → Bool
 idle_rows x ms k = some (λ r. outside (get_or ms r 0) (arcs_to x r)) k
+
+-- a mark of a receiver below k is out of range or not in its word of ws
+unfoldable pub outside_rows : ℕ → List ℕ → List ℕ → ℕ → Bool
+outside_rows n ms ws k = some (λ r. outside (get_or ms r 0) (bit_and (get_or ws r 0) (senders n r))) k

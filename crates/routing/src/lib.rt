@@ -2,28 +2,35 @@
 //
 // Contracts go through `memory`'s `view` and hold for any words. A refused round leaves every word as it stood. No public function has a
 // precondition; the private ones ask for the number of words and for what their callers have tested.
-#![tactic(auto)]
+#![tactic(auto, using(memory::proofs::Laws::few))]
 
-ghost use Rattle.std.specs.Prelude.{◌≡◌, ◌≢◌, cond, ◌<◌, length, set};
+ghost use Rattle.std.specs.Prelude.{◌≡◌, ◌≢◌, true, cond, ℕ, ◌<◌, length, set, IfSome, option_map};
 ghost use Rattle.network.specs.Answered.{answered};
 ghost use Rattle.network.specs.Network.{with_row};
-ghost use Rattle.network.specs.Round.{choice, hear, renew, round, round_of, full_round_of};
+ghost use Rattle.network.specs.Round.{choice, renew, round, every_arc, round_of, full_round_of};
 ghost use Rattle.network.specs.Words.{row_means};
+ghost use Rattle.network.specs.Arcs.{arcs_to};
 ghost use Rattle.memory.specs.Layout.{word_count, view};
-ghost use Rattle.memory.specs.Inner.{Node};
 ghost use Rattle.memory.specs.Answers.{Leaves};
-ghost use Rattle.routing.specs.Inner.{Nodes, Primed, Hears, OnArc, OnArcs, Given, RowWord, given, one_mark, row_marks, outside, stray_rows, idle_rows};
+ghost use Rattle.routing.specs.Inner.{by_words, Primed, hear_arcs, given, one_mark, row_marks, outside_rows};
 
 use memory::{
-    ARCS, COSTS, HELD_LABELS, HELD_LISTS, Network, ORIGIN, ROW_LABELS, ROW_LISTS, ROW_PREDECESSORS,
+    ARCS, COSTS, HELD_LABELS, HELD_LISTS, Network, ROW_LABELS, ROW_LISTS, ROW_PREDECESSORS,
 };
 use network::{Fault, Route};
+
+// One of 32 nodes.
+#[derive(Clone, Copy)]
+struct Node {
+    index: usize,
+    ghost small: { index < 32 },
+}
 
 // ---- hearing
 
 // Stores a word if it is another one: a later read of words side by side waits for the store of one of them.
-fn put_word(net: &mut [u32], at: usize, word: u32)
-    requires { at < length net.old }
+fn put_word(net: &mut Network, at: usize, word: u32)
+    requires { at < word_count }
     ensures { net.new ≡ set net.old at word }
 {
     if net[at] != word {
@@ -32,16 +39,17 @@ fn put_word(net: &mut [u32], at: usize, word: u32)
 }
 
 // The origin's words become those of its row, which is not read from memory.
-fn prime(net: &mut [u32], n: usize)
-    requires net_len { length net.old ≡ word_count }
-    requires nodes { Nodes net.old n }
-    ensures { Hears net.new (view net.old) }
+fn prime(net: &mut Network)
+    ensures { Primed net.old net.new }
 {
-    let origin = net[ORIGIN];
-    let at = origin as usize;
-    if at < n {
-        put_word(net, ROW_LABELS + at, 0);
-        put_word(net, ROW_LISTS + at, ancestors::joined(0, origin));
+    let origin = memory::origin(net);
+    if origin < memory::nodes(net) {
+        put_word(net, ROW_LABELS + origin as usize, 0);
+        put_word(
+            net,
+            ROW_LISTS + origin as usize,
+            ancestors::joined(0, origin),
+        );
     }
 }
 
@@ -51,109 +59,84 @@ fn either(marked: bool, new: u32, old: u32) -> u32
     if marked { new } else { old }
 }
 
-// A marked arc holds what its sender's row reports; an unmarked one keeps its report.
-fn hear_arc(net: &mut [u32], sender: usize, receiver: usize, told: bool)
-    requires net_len { length net.old ≡ word_count }
-    requires primed { Primed net.old }
-    requires sender_bound { sender < 32 }
-    requires node { Node net.old receiver }
-    requires on_arc { OnArc net.old sender receiver told }
-    ensures { Hears net.new (hear (one_mark sender receiver told) (view net.old)) }
+// A marked arc holds what its sender's row reports; an unmarked one keeps its report. What is stored at a pair without an arc plays no part.
+fn hear_arc(net: &mut Network, sender: Node, receiver: Node, told: bool)
+    ensures { by_words net.new ≡ hear_arcs (one_mark sender.index receiver.index told) (by_words net.old) }
 {
-    let at = receiver * 32 + sender;
-    net[HELD_LABELS + at] = either(told, net[ROW_LABELS + sender], net[HELD_LABELS + at]);
-    net[HELD_LISTS + at] = either(told, net[ROW_LISTS + sender], net[HELD_LISTS + at]);
+    let s = sender.index;
+    let at = receiver.index * 32 + s;
+    net[HELD_LABELS + at] = either(told, net[ROW_LABELS + s], net[HELD_LABELS + at]);
+    net[HELD_LISTS + at] = either(told, net[ROW_LISTS + s], net[HELD_LISTS + at]);
 }
 
 // From mark to mark.
-fn hear_few(net: &mut [u32], receiver: usize, word: u32)
-    requires net_len { length net.old ≡ word_count }
-    requires primed { Primed net.old }
-    requires node { Node net.old receiver }
-    requires on_arcs { OnArcs net.old receiver word }
-    ensures { Hears net.new (hear (row_marks receiver word 32) (view net.old)) }
+fn hear_few(net: &mut Network, receiver: Node, word: u32)
+    ensures { by_words net.new ≡ hear_arcs (row_marks receiver.index word 32) (by_words net.old) }
 {
-    let mut left = word;
-    while left != 0 {
-        let s = ancestors::lowest(left);
-        hear_arc(net, s as usize, receiver, true);
-        left = ancestors::left_out(left, s);
+    for s in ancestors::nodes_of(word) {
+        let sender = Node { index: s as usize };
+        hear_arc(net, sender, receiver, true);
     }
 }
 
-// Four senders at a time: the compiler makes vector instructions of four arcs. The last ones may be no nodes; they are not heard.
-fn hear_fours(net: &mut [u32], n: usize, receiver: usize, word: u32)
-    requires net_len { length net.old ≡ word_count }
-    requires primed { Primed net.old }
-    requires nodes { Nodes net.old n }
-    requires node { Node net.old receiver }
-    requires on_arcs { OnArcs net.old receiver word }
-    ensures { Hears net.new (hear (row_marks receiver word 32) (view net.old)) }
+// Four senders at a time: the compiler makes vector instructions of four arcs. The last ones may be no nodes.
+fn hear_fours(net: &mut Network, receiver: Node, word: u32)
+    ensures { by_words net.new ≡ hear_arcs (row_marks receiver.index word 32) (by_words net.old) }
 {
-    let mut bits = word;
-    let mut s: usize = 0;
-    while s < n {
-        hear_arc(net, s, receiver, ancestors::listed(bits, 0));
-        hear_arc(net, s + 1, receiver, ancestors::listed(bits, 1));
-        hear_arc(net, s + 2, receiver, ancestors::listed(bits, 2));
-        hear_arc(net, s + 3, receiver, ancestors::listed(bits, 3));
-        bits = bits >> 4;
-        s = s + 4;
+    let n = memory::nodes(net) as usize;
+    for s in (0..n).step_by(4) {
+        for k in 0usize..4 {
+            let sender = Node { index: s + k };
+            hear_arc(
+                net,
+                sender,
+                receiver,
+                ancestors::listed(word, (s + k) as u32),
+            );
+        }
     }
 }
 
 // Goes from mark to mark where no two beside each other are marked, and else through all senders, which takes less time for each.
-fn hear_row(net: &mut [u32], n: usize, receiver: usize, word: u32)
-    requires net_len { length net.old ≡ word_count }
-    requires primed { Primed net.old }
-    requires nodes { Nodes net.old n }
-    requires node { Node net.old receiver }
-    requires on_arcs { OnArcs net.old receiver word }
-    ensures { Hears net.new (hear (row_marks receiver word 32) (view net.old)) }
+fn hear_row(net: &mut Network, receiver: Node, word: u32)
+    ensures { by_words net.new ≡ hear_arcs (row_marks receiver.index word 32) (by_words net.old) }
 {
     if word & (word >> 1) == 0 {
         hear_few(net, receiver, word);
     } else {
-        hear_fours(net, n, receiver, word);
+        hear_fours(net, receiver, word);
     }
 }
 
-// The marks of a receiver, as a word: those given, or in a full round its arcs.
-fn row_word(net: &[u32], n: usize, full: bool, marks: &[u32], receiver: usize) -> u32
-    requires net_len { length net.now ≡ word_count }
-    requires nodes { Nodes net.now n }
-    requires given { Given net.now full marks.now }
-    requires node { Node net.now receiver }
-    ensures { RowWord (view net.now) full marks.now receiver result }
+// The arcs of a receiver, as a word.
+fn arcs_of(net: &Network, receiver: Node) -> u32
+    ensures { result ≡ arcs_to (view net.now) receiver.index }
 {
-    if full {
-        return net[ARCS + receiver] & faults::senders(n as u32, receiver as u32);
-    }
-    marks[receiver]
+    net[ARCS + receiver.index] & faults::senders(memory::nodes(net), receiver.index as u32)
 }
 
-fn hear_marks(net: &mut [u32], n: usize, full: bool, marks: &[u32])
-    requires net_len { length net.old ≡ word_count }
-    requires primed { Primed net.old }
-    requires nodes { Nodes net.old n }
-    requires given { Given net.old full marks.now }
-    ensures { Hears net.new (hear (given (view net.old) full marks.now) (view net.old)) }
+// Hears the marks, by receiver, or every arc.
+fn hear_marks(net: &mut Network, marks: Option<&[u32]>)
+    requires { IfSome marks (λ words. length words.now ≡ 32) }
+    ensures { by_words net.new ≡ hear_arcs (given (view net.old) (option_map (λ words. words.now) marks.entry)) (by_words net.old) }
 {
-    for r in 0..n {
-        let word = row_word(net, n, full, marks, r);
-        hear_row(net, n, r, word);
+    for r in 0..memory::nodes(net) as usize {
+        let word = match marks {
+            Some(words) => words[r],
+            None => arcs_of(net, Node { index: r }),
+        };
+        hear_row(net, Node { index: r }, word);
     }
 }
 
 // ---- new rows
 
 // The words of a network are never refused.
-fn choose_row(net: &[u32], n: usize, receiver: usize) -> Option<Route>
-    requires net_len { length net.now ≡ word_count }
-    requires nodes { Nodes net.now n }
-    requires node { Node net.now receiver }
-    ensures { row_means result ≡ choice n (λ s. (view net.now).cost s receiver) (λ s. (view net.now).held s receiver) receiver }
+fn choose_row(net: &Network, receiver: usize) -> Option<Route>
+    requires node { receiver < (view net.now).nodes }
+    ensures { row_means result ≡ choice (view net.now).nodes (λ s. (view net.now).cost s receiver) (λ s. (view net.now).held s receiver) receiver }
 {
+    let n = memory::nodes(net) as usize;
     let arcs = ancestors::left_out(net[ARCS + receiver], receiver as u32);
     let c = COSTS + receiver * 32;
     let d = HELD_LABELS + receiver * 32;
@@ -169,81 +152,57 @@ fn choose_row(net: &[u32], n: usize, receiver: usize) -> Option<Route>
 }
 
 // No route is words of 0.
-fn renew_row(net: &mut [u32], n: usize, receiver: usize)
-    requires net_len { length net.old ≡ word_count }
-    requires nodes { Nodes net.old n }
-    requires node { Node net.old receiver }
+fn renew_row(net: &mut Network, receiver: usize)
+    requires node { receiver < (view net.old).nodes }
     requires not_origin { receiver ≢ (view net.old).origin }
-    ensures { view net.new ≡ with_row (view net.old) receiver (choice n (λ s. (view net.old).cost s receiver) (λ s. (view net.old).held s receiver) receiver) }
+    ensures { view net.new ≡ with_row (view net.old) receiver (choice (view net.old).nodes (λ s. (view net.old).cost s receiver) (λ s. (view net.old).held s receiver) receiver) }
 {
     let none = Route {
         label: 0,
         predecessor: 0,
         list: 0,
     };
-    let route = choose_row(net, n, receiver).unwrap_or(none);
+    let route = choose_row(net, receiver).unwrap_or(none);
     net[ROW_LABELS + receiver] = route.label;
     net[ROW_PREDECESSORS + receiver] = route.predecessor;
     net[ROW_LISTS + receiver] = route.list;
 }
 
-fn renew_rows(net: &mut [u32], n: usize)
-    requires net_len { length net.old ≡ word_count }
-    requires nodes { Nodes net.old n }
+fn renew_rows(net: &mut Network)
     ensures { view net.new ≡ renew (view net.old) }
 {
-    let origin = net[ORIGIN] as usize;
+    let origin = memory::origin(net) as usize;
+    let n = memory::nodes(net) as usize;
     for r in 0..n {
         if r != origin {
-            renew_row(net, n, r);
+            renew_row(net, r);
         }
     }
 }
 
 // Hears the marks, or every arc, and then gives every node but the origin a new row.
-fn advance(net: &mut [u32], n: usize, full: bool, marks: &[u32])
-    requires net_len { length net.old ≡ word_count }
-    requires nodes { Nodes net.old n }
-    requires given { Given net.old full marks.now }
-    ensures { view net.new ≡ round (given (view net.old) full marks.now) (view net.old) }
+fn advance(net: &mut Network, marks: Option<&[u32]>)
+    requires long { IfSome marks (λ words. length words.now ≡ 32) }
+    requires on_arcs { (s r : ℕ) → given (view net.old) (option_map (λ words. words.now) marks) s r ≡ true → every_arc (view net.old) s r ≡ true }
+    ensures { view net.new ≡ round (given (view net.old) (option_map (λ words. words.now) marks.entry)) (view net.old) }
 {
-    prime(net, n);
-    hear_marks(net, n, full, marks);
-    renew_rows(net, n);
+    prime(net);
+    hear_marks(net, marks);
+    renew_rows(net);
 }
 
 // ---- refusals
 
-// Whether a receiver's word of marks has a bit that another word has not.
-fn outside(word: u32, other: u32) -> bool
-    ensures { result ≡ outside word other }
-{
-    ancestors::outside(word, other)
-}
-
-// Whether a mark is out of range.
-fn stray_marks(n: u32, marks: &[u32]) -> bool
-    requires { length marks.now ≡ 32 }
-    ensures { result ≡ stray_rows n marks.now 32 }
-{
-    let mut found = false;
-    for r in 0u32..32 {
-        found = rule::or(found, outside(marks[r as usize], faults::senders(n, r)));
-    }
-    found
-}
-
-// Whether a mark has no arc. One that is out of range has none.
-fn idle_marks(net: &[u32], n: u32, marks: &[u32]) -> bool
-    requires net_len { length net.now ≡ word_count }
+// Whether a mark of a receiver is not in its word of the words given, or out of range. All are passed without a branch, as vectors.
+fn any_outside(n: u32, marks: &[u32], words: &[u32]) -> bool
     requires marks_len { length marks.now ≡ 32 }
-    requires n_value { n ≡ (view net.now).nodes }
-    ensures { result ≡ idle_rows (view net.now) marks.now 32 }
+    requires words_len { length words.now ≡ 32 }
+    ensures { result ≡ outside_rows n marks.now words.now 32 }
 {
     let mut found = false;
     for r in 0u32..32 {
-        let arcs = net[ARCS + r as usize] & faults::senders(n, r);
-        found = rule::or(found, outside(marks[r as usize], arcs));
+        let word = words[r as usize] & faults::senders(n, r);
+        found = rule::or(found, ancestors::outside(marks[r as usize], word));
     }
     found
 }
@@ -259,13 +218,14 @@ pub fn round(net: &mut Network, marks: &[u32]) -> Result<(), Fault>
         return Err(Fault::Cut);
     }
     let n = memory::nodes(net);
-    if idle_marks(net, n, marks) {
-        if stray_marks(n, marks) {
+    // A mark that is out of range has no arc.
+    if any_outside(n, marks, &net[ARCS..ARCS + 32]) {
+        if any_outside(n, marks, &[u32::MAX; 32]) {
             return Err(Fault::Range);
         }
         return Err(Fault::Mark);
     }
-    advance(net, n as usize, false, marks);
+    advance(net, Some(marks));
     Ok(())
 }
 
@@ -273,7 +233,5 @@ pub fn round(net: &mut Network, marks: &[u32]) -> Result<(), Fault>
 pub fn full_round(net: &mut Network)
     ensures { Leaves (full_round_of (view net.old)) 0 net.old net.new }
 {
-    let n = memory::nodes(net);
-    let none = [0u32; 1];
-    advance(net, n as usize, true, &none);
+    advance(net, None);
 }

@@ -14,39 +14,32 @@ use Rattle.image.proofs.counted_length.Goals as goal
 
 pub loop-r-init : goal.loop-r-init
 unfolding body_length
-loop-r-init c = (omega (arith, sum_zero (receiver_bytes (view c.args.net.now))), omega arith)
+loop-r-init c = omega (arith, sum_zero (receiver_bytes (view c.args.from.now.net.now)))
 
-pub bounds-arcs-r : goal.bounds-arcs-r
-bounds-arcs-r c =
-    omega (arith, c.nodes-n.ensures, few c.args.net.now)
+pub bounds-from-r : goal.bounds-from-r
+bounds-from-r c = omega (arith, few c.args.from.now.net.now)
 
 pub receiver_length-total-requires : goal.receiver_length-total-requires
-receiver_length-total-requires c =
-    let a = c.args in
-    word_of a.net.now a.arcs.now _ c.requires (omega (arith, c.nodes-n.ensures))
+receiver_length-total-requires c = let s = c.args.from.now in word_of s.net.now s.arcs _ s.words (omega arith)
 
 pub overflow_add-total : goal.overflow_add-total
 unfolding body_length
 overflow_add-total c =
     let l = c.loop-r in
-    let w = c.args.net.now in
-    let f = receiver_bytes (view w) in
-    let sofar = sum_most f most_receiver l.r (receiver_most (view w)) in
-    omega (arith, l.invariant.0, l.invariant.1, c.nodes-n.ensures, few w, sofar, c.receiver_length-total.ensures, receiver_most (view w) l.r)
+    let w = c.args.from.now.net.now in
+    let sofar = sum_most (receiver_bytes (view w)) most_receiver l.r (receiver_most (view w)) in
+    omega (arith, l.invariant, few w, sofar, c.receiver_length-total.ensures, receiver_most (view w) l.r)
 
 pub loop-r-preserved : goal.loop-r-preserved
 loop-r-preserved c =
     let l = c.loop-r in
-    let w = c.args.net.now in
-    (omega (arith, l.invariant.0, c.receiver_length-total.ensures, sum_next (receiver_bytes (view w)) l.r), omega arith)
+    omega (arith, l.invariant, c.receiver_length-total.ensures, sum_next (receiver_bytes (view c.args.from.now.net.now)) l.r)
 
 pub returns : goal.returns
 returns c =
     let l = c.loop-r in
-    let w = c.args.net.now in
-    let whole = image_counted (view w) c.nodes-n.result _ c.nodes-n.ensures refl (few w) in
-    let e : l.r ≡ c.nodes-n.result = omega arith in
-    omega (arith, l.invariant.0, whole, ap (sum (receiver_bytes (view w))) e)
-
-pub nodes-n-requires : goal.nodes-n-requires
-nodes-n-requires c = tt
+    let w = c.args.from.now.net.now in
+    let n = c.nodes-r-end in
+    let whole = image_counted (view w) n.result _ n.ensures refl (few w) in
+    let e : l.r ≡ n.result = omega arith in
+    omega (arith, l.invariant, whole, ap (sum (receiver_bytes (view w))) e)

@@ -1,18 +1,15 @@
--- `image::row_length` meets its contract: what `memory` answers decides.
+-- `image::row_length` meets its contract: the route decides.
 -- Assumes nothing.
 use mathlib.Core.Path.{sym, ap, ◌∙◌}
 use lib.ListN.{length}
-use Rattle.memory.specs.Layout.{view}
+use Rattle.image.specs.Items.{route_bytes}
 use Rattle.records.proofs.Sizes.{row_long}
-use Rattle.image.proofs.Reading.{row_none, row_some}
 use Rattle.image.proofs.row_length.Goals as goal
 
-pub returns-in_default : goal.returns-in_default
-returns-in_default c =
-    let a = c.args in
-    sym (ap length (row_none (view a.net.now) a.r _ c.row.ensures c.in_default.not-Route))
+pub returns-in-None : goal.returns-in-None
+unfolding route_bytes
+returns-in-None c = ap length c.in-None.ensures
 
-pub returns : goal.returns
-returns c =
-    let a = c.args in
-    sym (ap length (row_some (view a.net.now) a.r _ c.row.ensures c.in-Route.is) ∙ row_long _ _ _ _)
+pub returns-in-Some : goal.returns-in-Some
+unfolding route_bytes
+returns-in-Some c = sym (row_long _ _ _ _) ∙ ap length c.in-Some.ensures

@@ -1,50 +1,31 @@
--- `opening::read_records` meets its contract. The loop's invariant: reading on from here gives the whole.
+-- `opening::read_records` meets its contract.
 -- Assumes nothing.
+use mathlib.Core.Path.{ap, ◌∙◌}
+use Prim.Native.Nat.{◌+◌}
 use native.Mathlib.Omega.{arith}
-use Rattle.memory.specs.Layout.{view}
-use Rattle.opening.proofs.Loop.{begin, at_stop, at_end_lem, at_next}
+use Rattle.std.proofs.Common.{None, Ok, Err}
+use Rattle.records.specs.Opening.{accepted_opening}
+use Rattle.opening.proofs.Loop.{by_answer, at_next}
 use Rattle.opening.proofs.read_records.Goals as goal
 
-pub loop-number-init : goal.loop-number-init
-loop-number-init c =
-    let a = c.args in
-    begin a.input.now (view a.net.now) a.start c.requires.start_nonzero c.requires.start_in_bounds
+pub returns-in-Err : goal.returns-in-Err
+returns-in-Err c = (by_answer c.loop-fault.invariant c.image_record-record.ensures c.place_event.ensures (Err _) c.in-Err.is).2
 
-pub returns-in-Stopped : goal.returns-in-Stopped
-returns-in-Stopped c =
-    let l = c.loop-number in
-    let d = c.image_record-record in
-    let p = c.place_event-step in
-    at_stop _ _ _ _ _ l.invariant _ d.ensures _ _ p.ensures _ c.in-Stopped.is
-
-pub overflow_add-used : goal.overflow_add-used
-overflow_add-used c = omega (arith, c.loop-number.invariant.within)
-
-pub returns-in-Finished : goal.returns-in-Finished
-returns-in-Finished c =
-    let l = c.loop-number in
-    let d = c.image_record-record in
-    let p = c.place_event-step in
-    at_end_lem _ _ _ _ _ l.invariant _ d.ensures _ _ p.ensures c.in-Finished.is
+pub returns-in-Ok-None : goal.returns-in-Ok-None
+returns-in-Ok-None c =
+    let e = c.in-Ok-None.is ∙ ap Ok c.in-Ok-None.field-0-is in
+    ap (λ x. accepted_opening x (c.loop-fault.at + 1)) (c.place_event.ensures.ended e)
+    ∙ (by_answer c.loop-fault.invariant c.image_record-record.ensures c.place_event.ensures (Ok None) e).2
 
 pub overflow_add-at : goal.overflow_add-at
 overflow_add-at c =
-    let l = c.loop-number in
-    let d = c.image_record-record in
-    let p = c.place_event-step in
-    omega (arith, (at_next _ _ _ _ _ l.invariant _ d.ensures _ _ p.ensures _ c.in-Onward.is).2)
+    let n = at_next c.loop-fault.invariant c.image_record-record.ensures c.place_event.ensures (c.in-Ok-Some.is ∙ ap Ok c.in-Ok-Some.field-0-is) in
+    omega (arith, n.1.within)
 
-pub loop-number-smaller : goal.loop-number-smaller
-loop-number-smaller c =
-    let l = c.loop-number in
-    let d = c.image_record-record in
-    let p = c.place_event-step in
-    let m = at_next _ _ _ _ _ l.invariant _ d.ensures _ _ p.ensures _ c.in-Onward.is in
-    omega (arith, m.1, m.2)
+pub loop-fault-smaller : goal.loop-fault-smaller
+loop-fault-smaller c =
+    let n = at_next c.loop-fault.invariant c.image_record-record.ensures c.place_event.ensures (c.in-Ok-Some.is ∙ ap Ok c.in-Ok-Some.field-0-is) in
+    omega (arith, n.0, n.1.within)
 
-pub loop-number-preserved : goal.loop-number-preserved
-loop-number-preserved c =
-    let l = c.loop-number in
-    let d = c.image_record-record in
-    let p = c.place_event-step in
-    (at_next _ _ _ _ _ l.invariant _ d.ensures _ _ p.ensures _ c.in-Onward.is).0
+pub loop-fault-preserved : goal.loop-fault-preserved
+loop-fault-preserved c = (at_next c.loop-fault.invariant c.image_record-record.ensures c.place_event.ensures (c.in-Ok-Some.is ∙ ap Ok c.in-Ok-Some.field-0-is)).1

@@ -7,8 +7,8 @@ use Rattle.records.specs.Opening.{read_records_of}
 use Rattle.opening.proofs.Loop.{Going}
 use Rattle.opening.proofs.read_records.Given as goal
 
-abbrev pub invariant-loop-number : goal.invariant-loop-number
-invariant-loop-number l = Going (read_records_of (length l.input) (view l.initial.net) 0 l.start (drop l.start l.input)) l.input (view l.net) l.next l.at
+abbrev pub invariant-loop-fault : goal.invariant-loop-fault
+invariant-loop-fault l = Going (read_records_of (length l.input) (view l.initial.net) 0 l.start (drop l.start l.input)) l.input (view l.net) l.next l.at
 
-abbrev pub decreases-loop-number : goal.decreases-loop-number
-decreases-loop-number l = length l.input - l.at
+abbrev pub decreases-loop-fault : goal.decreases-loop-fault
+decreases-loop-fault l = length l.input - l.at

@@ -1,20 +1,11 @@
 -- `routing::full_round` meets its contract: a round on the words of arcs.
 -- Assumes nothing.
-use borrow.Author.Rules.{rules}
-use Rattle.routing.proofs.Hearing.{nodes_count}
-use Rattle.routing.proofs.Marks.{arcs_given}
-use Rattle.routing.proofs.Rounding.{full_round_done}
+use Rattle.memory.specs.Layout.{view}
+use Rattle.routing.proofs.Rounding.{arcs_given, full_round_done}
 use Rattle.routing.proofs.full_round.Goals as goal
 
-pub advance-requires : goal.advance-requires
-advance-requires c =
-    let w = c.args.net.now in
-    let n = c.nodes-n in
-    record {
-      net_len = search rules;
-      nodes = nodes_count w n.result n.ensures;
-      given = arcs_given w _;
-    }
+pub advance-requires-clause-on_arcs : goal.advance-requires-clause-on_arcs
+advance-requires-clause-on_arcs c = arcs_given (view c.args.net.now)
 
 pub returns : goal.returns
-returns c = full_round_done c.args.net.now c.advance.new.net _ c.advance.ensures
+returns c = full_round_done c.args.net.now c.advance.new.net c.advance.ensures

@@ -1,5 +1,6 @@
 -- `routing::renew_row` meets its contract: the chosen row is stored.
 -- Assumes nothing.
+use borrow.Author.Rules.{rules}
 use mathlib.Core.Path.{ap, ◌∙◌}
 use Rattle.network.specs.Network.{with_row}
 use Rattle.memory.specs.Layout.{view}
@@ -13,6 +14,6 @@ returns c =
     let p = c.requires in
     let x = view a.net.now in
     let w = c.unwrap_or-route in
-    store_row a.net.now p.net_len a.receiver w.result.label w.result.predecessor w.result.list p.node.below p.not_origin
-    ∙ ap (with_row x a.receiver) (route_words a.n (λ s. x.cost s a.receiver) (λ s. x.held s a.receiver) a.receiver c.choose_row.result w.result w.ensures
+    store_row a.net.now (search rules) a.receiver w.result.label w.result.predecessor w.result.list p.node p.not_origin
+    ∙ ap (with_row x a.receiver) (route_words x.nodes (λ s. x.cost s a.receiver) (λ s. x.held s a.receiver) a.receiver c.choose_row.result w.result w.ensures
     c.choose_row.ensures)
