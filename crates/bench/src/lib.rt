@@ -1,5 +1,7 @@
-// The calls under C names, for the benchmark in bench/ and the comparisons in tests/. Where the answer is a number it is the call itself, with its
-// contract; the others hand out the answer in lent words.
+// The calls under C names, for the benchmark in bench/ and the comparisons in tests/. C takes numbers and lent words: where the answer is a number it is
+// the call itself, with its contract; the others hand out the answer in lent words.
+//
+// `as u64` is from a `usize`, for which std has no `From`.
 #![tactic(auto)]
 
 ghost use Rattle.std.specs.Prelude.{◌≡◌, ◌≤◌, ◌+◌, ◌∷◌, [], length, get_or};
@@ -263,7 +265,7 @@ pub extern "C" fn bench_row(net: &Network, node: u32, answer: &mut [u64; 5])
     *answer = row_words(memory::row(net, node));
 }
 
-// Number and value of what was read.
+// Number and value of what was read. Not `two`: std has no conversion to 64 bits that `usize` and `u32` share.
 fn value_words(read: Result<u32, Fault>) -> [u64; 2]
     ensures { result ≡ (answered read ∷ result_unwrap_or read 0 ∷ []) }
 {

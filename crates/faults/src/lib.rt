@@ -112,5 +112,6 @@ pub fn grade_cost(grade: u32) -> u32
     if network::MAX_GRADE < grade {
         return 0;
     }
+    // An index is a `usize`, for which std has no `From<u32>`.
     GRADES[grade as usize]
 }

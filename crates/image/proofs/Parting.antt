@@ -14,7 +14,7 @@ use Rattle.records.specs.Image.{each, arc_bytes, row_bytes, report_bytes, by_nod
 use Rattle.records.proofs.Each.{each_same, each_split, each_none}
 use Rattle.records.proofs.Sizes.{end_long, header_long, each_gap, pairs_gap}
 use Rattle.filling.specs.Filling.{Wrote}
-use Rattle.image.specs.Lines.{arc_at, row_at, report_at, arc_line, report_line}
+use Rattle.image.specs.Lines.{arc_at, row_at, report_at}
 use Rattle.image.specs.Measured.{sum, receiver_bytes, most_bytes_of}
 use Rattle.image.proofs.Sums.{sum_same, sum_add, sum_swap}
 use Rattle.image.proofs.Lengths.{arc_at_most, row_at_most, report_at_most, each_sum}
@@ -54,7 +54,7 @@ node_none n y l h = rw (node_bad n y h)
 
 module _ (x : Net) (n o : ℕ) (nodes : n ≡ x.nodes) (origin : o ≡ x.origin) (few : x.nodes ≤ max_nodes) where
   -- the records of the nodes below n, each after those before it
-  pub image_parts : image x ≡ (((header_record_of n o ++ each (arc_line x n) 0 n) ++ each (row_at x) 0 n) ++ each (report_line x n) 0 n) ++ end_record
+  pub image_parts : image x ≡ (((header_record_of n o ++ each (λ s. each (arc_at x s) 0 n) 0 n) ++ each (row_at x) 0 n) ++ each (λ s. each (report_at x s) 0 n) 0 n) ++ end_record
   unfolding image by_pair by_node arc_at row_at report_at
   image_parts =
       let m = x.nodes in
@@ -66,7 +66,7 @@ module _ (x : Net) (n o : ℕ) (nodes : n ≡ x.nodes) (origin : o ≡ x.origin)
       rw (nodes, origin, a, b, c) (simp append_assoc)
 
   -- their lengths
-  pub image_long : length (image x) ≡ record_length 1 + length (each (arc_line x n) 0 n) + length (each (row_at x) 0 n) + length (each (report_line x n) 0 n) + record_length 0
+  pub image_long : length (image x) ≡ record_length 1 + length (each (λ s. each (arc_at x s) 0 n) 0 n) + length (each (row_at x) 0 n) + length (each (λ s. each (report_at x s) 0 n) 0 n) + record_length 0
   unfolding body_length
   image_long = ap length image_parts ∙ simp (length-append, header_long, end_long)
 
@@ -95,10 +95,10 @@ module _ (x : Net) (n o : ℕ) (nodes : n ≡ x.nodes) (origin : o ≡ x.origin)
   image_by_nodes l h e =
       let m = x.nodes in
       let free = node_free m o (omega arith) in
-      let a : length (each (arc_line x n) 0 n) ≤ n * (n - 1) * record_length 2 = pairs_gap (arc_at x) (record_length 2) n
+      let a : length (each (λ s. each (arc_at x s) 0 n) 0 n) ≤ n * (n - 1) * record_length 2 = pairs_gap (arc_at x) (record_length 2) n
       (λ s. rw (pair_same m s)) (arc_at_most x) in
       let b : length (each (row_at x) 0 n) ≤ record_length 3 * (n - 1) = each_gap (row_at x) (record_length 3) n o h (rw (free, e)) (row_at_most x) in
-      let c : length (each (report_line x n) 0 n) ≤ n * (n - 1) * record_length 4 = pairs_gap (report_at x) (record_length 4) n
+      let c : length (each (λ s. each (report_at x s) 0 n) 0 n) ≤ n * (n - 1) * record_length 4 = pairs_gap (report_at x) (record_length 4) n
       (λ s. rw (pair_same m s)) (report_at_most x) in
       omega (arith, image_long, a, b, c)
 

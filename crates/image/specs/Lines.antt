@@ -3,7 +3,7 @@
 use Rattle.std.specs.Prelude.{cond, List, [], ℕ}
 use Rattle.network.specs.Faults.{node_fault, pair_fault_of}
 use Rattle.network.specs.Network.{Net}
-use Rattle.records.specs.Image.{each, arc_bytes, row_bytes, report_bytes}
+use Rattle.records.specs.Image.{arc_bytes, row_bytes, report_bytes}
 
 -- the record of x's arc from s to r, of y's row, and of the report from s to r; none where x has none
 unfoldable pub arc_at : Net → ℕ → ℕ → List ℕ
@@ -14,10 +14,3 @@ row_at x y = cond (node_fault x.nodes y) [] (row_bytes y (x.row y))
 
 unfoldable pub report_at : Net → ℕ → ℕ → List ℕ
 report_at x s r = cond (pair_fault_of x.nodes s r) [] (report_bytes s r (x.held s r))
-
--- the arcs of sender s to the receivers below n, and the reports of s that they hold
-abbrev pub arc_line : Net → ℕ → ℕ → List ℕ
-arc_line x n s = each (arc_at x s) 0 n
-
-abbrev pub report_line : Net → ℕ → ℕ → List ℕ
-report_line x n s = each (report_at x s) 0 n

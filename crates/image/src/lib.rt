@@ -16,8 +16,8 @@ ghost use Rattle.records.specs.Numbers.{be32};
 ghost use Rattle.records.specs.Records.{record_length, end_record, header_record_of, arc_record_of, row_record_of, report_record_of};
 ghost use Rattle.records.specs.Image.{each, image, image_of};
 ghost use Rattle.filling.specs.Filling.{Wrote};
-ghost use Rattle.image.specs.Items.{route_bytes, Puts};
-ghost use Rattle.image.specs.Lines.{arc_at, row_at, report_at, arc_line, report_line};
+ghost use Rattle.image.specs.Items.{route_bytes, used, Puts};
+ghost use Rattle.image.specs.Lines.{arc_at, row_at, report_at};
 ghost use Rattle.image.specs.Measured.{holds, receiver_bytes, most_bytes_of};
 
 use memory::{Network, RowRead};
@@ -70,7 +70,7 @@ fn put_header(out: &mut [u8], n: u32, origin: u32) -> usize
     HEADER_LENGTH
 }
 
-// The compiler joins the bytes of a number into one store where no other byte is stored right before them. So the next writers begin with a number, and
+// Bytes are cut off by `%` and a cast, and stored one by one: the compiler joins the bytes of a number into one store where no other byte is stored right before them. So the next writers begin with a number, and
 // before the second one there is a test, which always passes, or a word of the network is read.
 
 // The record of an arc.
@@ -133,20 +133,8 @@ fn put_report(out: &mut [u8], net: &Network, pair: Pair, list: u32) -> usize
 #[derive(Drop)]
 struct Source<'a> {
     net: &'a Network,
-    arcs: [u32; NODES],
-    ghost words: { arcs ≡ arc_words_of (view net.now) },
-}
-
-// Reads the words.
-fn read_source(net: &Network) -> Source
-    ensures { result.net.now ≡ net.now }
-{
-    let mut arcs = [0u32; NODES];
-    memory::arc_words(net, &mut arcs);
-    Source {
-        net: net,
-        arcs: arcs,
-    }
+    arcs: &'a [u32; NODES],
+    ghost words: { arcs.now ≡ arc_words_of (view net.now) },
 }
 
 // Whether the pair has an arc.
@@ -170,101 +158,87 @@ fn relay_route(net: &Network, node: u32) -> Option<Route>
     }
 }
 
-// ---- a record where the network has one, at the front of a part; no byte is used where it has none
+// ---- a record where the network has one, at the front of a part: answers the bytes used, and none where it has none
 
-fn write_arc(from: &Source, pair: Pair, out: &mut [u8]) -> usize
+fn write_arc(from: &Source, pair: Pair, out: &mut [u8]) -> Option<usize>
     requires sender_bound { pair.sender < (view from.now.net.now).nodes }
     requires receiver_bound { pair.receiver < (view from.now.net.now).nodes }
     requires room { length (arc_at (view from.now.net.now) pair.sender pair.receiver) ≤ length out.old }
-    ensures { Wrote (arc_at (view from.now.net.now) pair.sender pair.receiver) out.old out.new result }
+    ensures { Wrote (arc_at (view from.now.net.now) pair.sender pair.receiver) out.old out.new (used result) }
 {
     if !has_arc(from, pair) {
-        return 0;
+        return None;
     }
-    put_arc(out, pair, memory::cost_word(from.net, pair))
+    Some(put_arc(out, pair, memory::cost_word(from.net, pair)))
 }
 
-fn write_row(from: &Source, node: u32, out: &mut [u8]) -> usize
+fn write_row(from: &Source, node: u32, out: &mut [u8]) -> Option<usize>
     requires { length (row_at (view from.now.net.now) node) ≤ length out.old }
-    ensures { Wrote (row_at (view from.now.net.now) node) out.old out.new result }
+    ensures { Wrote (row_at (view from.now.net.now) node) out.old out.new (used result) }
 {
     match relay_route(from.net, node) {
-        None => 0,
-        Some(route) => put_row(out, node, route),
+        None => None,
+        Some(route) => Some(put_row(out, node, route)),
     }
 }
 
-fn write_report(from: &Source, pair: Pair, out: &mut [u8]) -> usize
+fn write_report(from: &Source, pair: Pair, out: &mut [u8]) -> Option<usize>
     requires sender_bound { pair.sender < (view from.now.net.now).nodes }
     requires receiver_bound { pair.receiver < (view from.now.net.now).nodes }
     requires room { length (report_at (view from.now.net.now) pair.sender pair.receiver) ≤ length out.old }
-    ensures { Wrote (report_at (view from.now.net.now) pair.sender pair.receiver) out.old out.new result }
+    ensures { Wrote (report_at (view from.now.net.now) pair.sender pair.receiver) out.old out.new (used result) }
 {
     if !has_arc(from, pair) {
-        return 0;
+        return None;
     }
     let list = memory::held_list_word(from.net, pair);
     if list == 0 {
-        return 0;
+        return None;
     }
-    put_report(out, from.net, pair, list)
+    Some(put_report(out, from.net, pair, list))
 }
 
 // ---- records, one after another
 
-// The records of the numbers below n: each is written by a writer that is lent the part not yet filled.
-fn write_each<F: Fn(u32, &mut [u8]) -> usize>(n: u32, out: &mut [u8], write: F) -> usize
+// Those of a sender to the receivers below n: each is written by a writer that is lent the part not yet filled.
+fn write_line<F: Fn(Pair, &mut [u8]) -> Option<usize>>(
+    sender: u32,
+    n: u32,
+    out: &mut [u8],
+    write: &F,
+) -> usize
     ghost record_of: { ℕ → List ℕ }
-    requires writes { Puts (F.pre write) (F.post write) record_of n }
+    requires writes { Puts (F.pre write.now) (F.post write.now) record_of sender n }
     requires room { length (each record_of 0 n) ≤ length out.old }
     ensures { Wrote (each record_of 0 n) out.old out.new result }
 {
     let mut at: usize = 0;
-    for i in 0..n {
-        at = at + write(i, &mut out[at..]);
+    for receiver in 0..n {
+        if let Some(k) = write(
+            Pair {
+                sender: sender,
+                receiver: receiver,
+            },
+            &mut out[at..],
+        ) {
+            at = at + k;
+        }
     }
     at
 }
 
-// The arcs of a sender, and the reports of it that receivers hold.
-fn write_arcs(from: &Source, sender: u32, n: u32, out: &mut [u8]) -> usize
-    requires sender_bound { sender < (view from.now.net.now).nodes }
-    requires n_bound { n ≤ (view from.now.net.now).nodes }
-    requires room { length (arc_line (view from.now.net.now) n sender) ≤ length out.old }
-    ensures { Wrote (arc_line (view from.now.net.now) n sender) out.old out.new result }
+// Those of the senders below n.
+fn write_lines<F: Fn(Pair, &mut [u8]) -> Option<usize>>(n: u32, out: &mut [u8], write: &F) -> usize
+    ghost record_of: { ℕ → ℕ → List ℕ }
+    requires writes { (s : ℕ) → s < n → Puts (F.pre write.now) (F.post write.now) (record_of s) s n }
+    requires room { length (each (λ s. each (record_of s) 0 n) 0 n) ≤ length out.old }
+    ensures { Wrote (each (λ s. each (record_of s) 0 n) 0 n) out.old out.new result }
 {
-    write_each(
-        n,
-        out,
-        |receiver, part| write_arc(
-            from,
-            Pair {
-                sender: sender,
-                receiver: receiver,
-            },
-            part,
-        ),
-    )
-}
-
-fn write_reports(from: &Source, sender: u32, n: u32, out: &mut [u8]) -> usize
-    requires sender_bound { sender < (view from.now.net.now).nodes }
-    requires n_bound { n ≤ (view from.now.net.now).nodes }
-    requires room { length (report_line (view from.now.net.now) n sender) ≤ length out.old }
-    ensures { Wrote (report_line (view from.now.net.now) n sender) out.old out.new result }
-{
-    write_each(
-        n,
-        out,
-        |receiver, part| write_report(
-            from,
-            Pair {
-                sender: sender,
-                receiver: receiver,
-            },
-            part,
-        ),
-    )
+    let mut at: usize = 0;
+    for sender in 0..n {
+        at = at + write_line(sender, n, &mut out[at..], write);
+    }
+    at
 }
 
 // Writes an image where there is room for it.
@@ -275,27 +249,28 @@ fn write_all(from: &Source, out: &mut [u8]) -> usize
     let n = memory::nodes(from.net);
     let arcs = put_header(out, n, memory::origin(from.net));
     let rows = arcs
-        + write_each(
+        + write_lines(
             n,
             &mut out[arcs..],
-            |sender, part| write_arcs(from, sender, n, part),
+            &|pair, part| write_arc(from, pair, part),
         );
     let reports = rows
-        + write_each(
+        + write_line(
+            0,
             n,
             &mut out[rows..],
-            |node, part| write_row(from, node, part),
+            &|pair, part| write_row(from, pair.receiver, part),
         );
     let end = reports
-        + write_each(
+        + write_lines(
             n,
             &mut out[reports..],
-            |sender, part| write_reports(from, sender, n, part),
+            &|pair, part| write_report(from, pair, part),
         );
     end + put_end(&mut out[end..])
 }
 
-// ---- lengths
+// ---- lengths; std has no `From<u32>` for `usize`
 
 // How many reports receiver r holds, over these arcs, from arc to arc.
 fn held_few(net: &Network, arcs: u32, r: u32) -> u32
@@ -410,14 +385,24 @@ fn fits(from: &Source, room: usize) -> bool
 pub fn image_length(net: &Network) -> usize
     ensures { result ≡ length (image (view net.now)) }
 {
-    counted_length(&read_source(net))
+    let mut arcs = [0u32; NODES];
+    memory::arc_words(net, &mut arcs);
+    counted_length(&Source {
+        net: net,
+        arcs: &arcs,
+    })
 }
 
 // Writes a network's image and answers its length. Refused as Room where the output is shorter than the image, and then nothing is written.
 pub fn write_image(net: &Network, out: &mut [u8]) -> Result<usize, Fault>
     ensures { Writes (image_of (view net.now) out.old) result out.new }
 {
-    let from = read_source(net);
+    let mut arcs = [0u32; NODES];
+    memory::arc_words(net, &mut arcs);
+    let from = Source {
+        net: net,
+        arcs: &arcs,
+    };
     if !fits(&from, out.len()) {
         return Err(Fault::Room);
     }

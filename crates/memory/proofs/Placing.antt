@@ -23,18 +23,13 @@ use Rattle.std.specs.Prelude.{Result, Ok, Err}
 use Rattle.std.specs.Result.{IsErrAnd}
 use Rattle.network.specs.Answered.{fault_number, answered}
 use Rattle.network.specs.declared.Fault.{Fault}
-use Rattle.network.proofs.Answered.{fault_some}
+use Rattle.network.proofs.Answered.{fault_some, answered_err}
 use Rattle.memory.proofs.Laws.{few, leaves_refused, leaves_accepted}
 use Rattle.memory.proofs.Store.{arc_is, store_report, store_row}
 
 -- a list with a node is not 0
 listed_some : (l i : ℕ) → has l i ≡ true → l ≢ 0
 listed_some l i h e = never (has 0 i) (subst (λ k. has k i ≡ true) e h) (has_empty i)
-
--- the number of what `?` returns
-pub answered_err : {A : Type 0} (q : Result A Fault) (f : Fault) → IsErrAnd q (λ g. g ≡ f) → answered q ≡ fault_number f
-answered_err (Err g) f e = ap fault_number e
-answered_err (Ok x) f e = absurd e
 
 -- a refusal passed on leaves the words
 pub leaves_err : {A : Type 0} (q : Result A Fault) (f : Fault) (number : ℕ) (next : Net) (xs : List ℕ) → IsErrAnd q (λ g. g ≡ f) → fault_number f ≡ number

@@ -18,6 +18,8 @@ ghost use Rattle.memory.specs.Answers.{Leaves, Starts, read_row, row_means, read
 
 use network::{Fault, HeldReport, Pair, Route};
 
+// Nodes are numbers of 32 bits and an index is a `usize`, for which std has no `From<u32>`: `as usize` below.
+
 // Words for something of each node, and of each pair.
 const BY_NODE: usize = network::NODES;
 

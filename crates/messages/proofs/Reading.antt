@@ -3,21 +3,22 @@
 use mathlib.Core.Path.{◌≡◌, refl, sym, ap, ◌∙◌}
 use mathlib.Core.Bool.{Bool, true, false, cond, or-true}
 use mathlib.Core.List.{List, [], ◌∷◌, ◌++◌, append_assoc}
-use mathlib.Core.Logic.{◌⊎◌, inl, inr, ◌≢◌}
+use mathlib.Core.Logic.{◌≢◌}
 use Prim.Native.Nat.{ℕ, zero, suc, ◌+◌, ◌*◌, ◌-◌, ◌<◌, ◌≤◌}
 use native.Mathlib.Numerals.{add-one}
 use native.Mathlib.Omega.{arith}
 use lib.ListN.{length, take, length-append, length-drop}
 use lib.Seq.{get_or-take, take_all}
 use borrow.Author.Tests.{eq-eqb}
+use Rattle.std.proofs.lemmas.Bool.Decides.{nat_tests}
 use Rattle.std.specs.Prelude.{Option, Some, None, Result, Err, IsErrAnd}
 use Rattle.std.specs.Option.{ok_or}
 use Rattle.std.proofs.lemmas.Result.{err_from_is_err_and}
 use Rattle.network.specs.Answered.{fault_number, answered}
 use Rattle.network.specs.declared.Fault.{Fault}
 use Rattle.network.specs.declared.Fault.TheVariants as F
-use Rattle.ancestors.proofs.Cases.{bool_cases}
 use Rattle.network.specs.Round.{some}
+use Rattle.network.proofs.Answered.{answered_err}
 use Rattle.network.proofs.Marking.{some_here}
 use Rattle.records.specs.Numbers.{Bytes, num8, num16, num32}
 use Rattle.records.specs.Image.{each}
@@ -27,7 +28,7 @@ use Rattle.response.specs.Reading.{entry_fault, entry_metric, header_fault, entr
 use Rattle.response.proofs.Pieces.{ones_size}
 use Rattle.response.proofs.Sizes.{nodes_before, before_first, before_next}
 use Rattle.response.proofs.Answering.{read_wrong, read_right, wrong_length}
-use Rattle.response.proofs.Fields.{header_says, header_by, header_word, header_same}
+use Rattle.response.proofs.Fields.{header_word}
 
 -- one more that is right
 some_more : (f : ℕ → Bool) (i : ℕ) → some f i ≡ false → f i ≡ false → some f (i + 1) ≡ false
@@ -38,18 +39,14 @@ pub some_zero : (f : ℕ → Bool) → some f 0 ≡ false
 unfolding some
 some_zero f = refl
 
--- what a `?` answers
-pub exit_number : {A : Type 0} (q : Result A Fault) (f : Fault) → IsErrAnd q (λ g. g ≡ f) → answered q ≡ fault_number f
-exit_number q f e = let p = err_from_is_err_and q e in rw (p.1, p.2)
-
--- after `ok_or(Fault::Message)`
+-- what a `?` answers after `ok_or(Fault::Message)`
 pub exit_message : {A B : Type 0} (q : Result A Fault) (f : Fault) (o : Option B) → IsErrAnd q (λ g. g ≡ f) → Err f ≡ ok_or o F.Message → o ≡ None → answered q ≡ 14
-exit_message q f None e v n = let m : f ≡ F.Message = cc in exit_number q f e ∙ ap fault_number m
+exit_message q f None e v n = let m : f ≡ F.Message = cc in answered_err q f e ∙ ap fault_number m
 exit_message q f (Some x) e v n = cc
 
--- ---- an entry, read in a part of k bytes
+-- ---- numbers and an entry, read in a part of k bytes
 
-module _ (k : ℕ) (b : List ℕ) (room : entry_length ≤ k) where
+module _ (k : ℕ) (b : List ℕ) where
   low16 : (i : ℕ) → i + 2 ≤ k → num16 (take k b) i ≡ num16 b i
   unfolding num16 num8
   low16 i h =
@@ -61,23 +58,14 @@ module _ (k : ℕ) (b : List ℕ) (room : entry_length ≤ k) where
   unfolding num32
   low32 i h = rw (low16 i (omega arith), low16 (i + 2) (omega arith))
 
-  entry_part : (a : ℕ) → entry_fault a (take k b) ≡ entry_fault a b
+  entry_part : entry_length ≤ k → (a : ℕ) → entry_fault a (take k b) ≡ entry_fault a b
   unfolding entry_fault
-  entry_part a =
+  entry_part room a =
       rw (low16 0 (omega arith), low16 2 (omega arith), low32 4 (omega arith), low32 8 (omega arith), low32 12 (omega arith), low32 16 (omega arith))
 
-  metric_part : entry_metric (take k b) ≡ entry_metric b
+  metric_part : entry_length ≤ k → entry_metric (take k b) ≡ entry_metric b
   unfolding entry_metric
-  metric_part = low32 16 (omega arith)
-
--- the answer, by cases
-chosen : {A : Type 0} (t : Bool) (x m : A) → Some m ≡ cond t None (Some x) → (t ≡ false) × (m ≡ x)
-chosen true x m e = cc
-chosen false x m e = (refl, cc)
-
-refused : {A : Type 0} (t : Bool) (x : A) → None ≡ cond t None (Some x) → t ≡ true
-refused true x e = refl
-refused false x e = cc
+  metric_part room = low32 16 (omega arith)
 
 -- ---- a message, read entry by entry
 
@@ -92,7 +80,7 @@ module _ (base y : ℕ) (b : List ℕ) where
         → message_fault base y d b ≡ true
     unfolding message_fault
     entry_wrong d h e =
-        let f = refused _ _ e in
+        let f : entry_fault a (take k (entry_from b i)) ≡ true = grind arith in
         rw (some_here (λ j. entry_fault (address base (y + j)) (entry_from b j)) d i h (rw (entry_part k (entry_from b i) room a, at) at f), or-true (header_fault b))
 
     -- a right one's metric is added
@@ -101,29 +89,25 @@ module _ (base y : ℕ) (b : List ℕ) where
         → after ≡ before ++ (m ∷ []) → before ≡ old ++ message_metrics i b → RightBefore (i + 1) × (after ≡ old ++ message_metrics (i + 1) b)
     unfolding message_metrics
     entry_right old {m} e h p q =
-        let c = chosen _ _ m e in
-        let f = rw (entry_part k (entry_from b i) room a, at) at c.0 in
-        let v : m ≡ entry_metric (entry_from b i) = c.1 ∙ metric_part k (entry_from b i) room in (
+        let c : entry_fault a (take k (entry_from b i)) ≡ false = grind arith in
+        let d : m ≡ entry_metric (take k (entry_from b i)) = grind arith in
+        let f = rw (entry_part k (entry_from b i) room a, at) at c in
+        let v : m ≡ entry_metric (entry_from b i) = d ∙ metric_part k (entry_from b i) room in (
           some_more (λ j. entry_fault (address base (y + j)) (entry_from b j)) i h f,
           p ∙ rw (q, each_next (λ j. entry_metric (entry_from b j) ∷ []) i, ← v) (append_assoc old _ _),
         )
 
   -- the number in its first four bytes decides about its header
   first_word : num32 (take header_length b) 0 ≡ num32 b 0
-  unfolding num32 num16 num8
-  first_word = rw (get_or-take header_length b 0 0 (omega arith), get_or-take header_length b 1 0 (omega arith), get_or-take header_length b 2 0 (omega arith), get_or-take header_length b 3 0 (omega arith))
+  first_word = low32 header_length b 0 (omega arith)
 
-  pub header_wrong : (d : ℕ) → num32 (take header_length b) 0 ≢ 33685504 → message_fault base y d b ≡ true
+  pub header_wrong : (d : ℕ) → Bytes b → num32 (take header_length b) 0 ≢ 33685504 → message_fault base y d b ≡ true
   unfolding message_fault
-  header_wrong d h = go (bool_cases (header_fault b))
-    where
-      go : (header_fault b ≡ true) ⊎ (header_fault b ≡ false) → message_fault base y d b ≡ true
-      go (inl e) = rw e
-      go (inr e) = absurd (h (first_word ∙ header_same b (header_says b e)))
+  header_wrong d bytes h = rw (header_word b bytes) (let e = first_word in grind (arith, nat_tests))
 
   pub message_right : {i d : ℕ} → Bytes b → num32 (take header_length b) 0 ≡ 33685504 → RightBefore i → i ≡ d → message_fault base y d b ≡ false
   unfolding message_fault
-  message_right bytes e h is = rw (← is, header_by b (header_word b bytes (sym first_word ∙ e)), h)
+  message_right bytes e h is = rw (← is, header_word b bytes, h) (let f = first_word in grind (arith, nat_tests))
 
 -- ---- a buffer, read message by message
 
@@ -163,20 +147,10 @@ module _ (n : ℕ) (b : List ℕ) (k : ℕ) where
     whole = rw rest at answer
 
     pub message_wrong : e ≢ 0 → (message_fault base (first_node k) (entry_count_of n k) (message_from b k) ≡ true) × (e ≡ 14)
-    message_wrong h = go (bool_cases (message_fault base (first_node k) (entry_count_of n k) (message_from b k)))
-      where
-        go : (message_fault base (first_node k) (entry_count_of n k) (message_from b k) ≡ true) ⊎ (message_fault base (first_node k) (entry_count_of n k) (message_from b k) ≡ false)
-            → (message_fault base (first_node k) (entry_count_of n k) (message_from b k) ≡ true) × (e ≡ 14)
-        go (inl t) = (t, rw t at whole)
-        go (inr t) = absurd (h (rw t at whole))
+    message_wrong h = let w = whole in (grind (arith, nat_tests), grind (arith, nat_tests))
 
     pub messages_next : e ≡ 0 → MessagesRight base n b k → MessagesRight base n b (k + 1)
-    messages_next z h = some_more _ k h (go (bool_cases (message_fault base (first_node k) (entry_count_of n k) (message_from b k))))
-      where
-        go : (message_fault base (first_node k) (entry_count_of n k) (message_from b k) ≡ true) ⊎ (message_fault base (first_node k) (entry_count_of n k) (message_from b k) ≡ false)
-            → message_fault base (first_node k) (entry_count_of n k) (message_from b k) ≡ false
-        go (inl t) = absurd (omega (arith, z, rw t at whole))
-        go (inr t) = t
+    messages_next z h = some_more _ k h (let w = whole in grind (arith, nat_tests))
 
 -- what the call answers: g and m are what is given, and l is the length of the messages
 module _ (base n : ℕ) (b : List ℕ) {g m l : ℕ} (same : (g ≡ base) × (m ≡ n)) (given : 0 ≡ given_then base n 0) (size : l ≡ messages_length_of m) where

@@ -33,6 +33,7 @@ struct Given {
 
 impl Given {
     // Refused as Base, then as Range.
+    #[tactic(auto, unfolding(response::specs::Messages::given_then, response::specs::Messages::base_fault, response::specs::Messages::count_fault))]
     fn check(base: u32, nodes: u32) -> Result<Self, Fault>
         ensures number { answered result ≡ given_then base nodes 0 }
         ensures given { IfOk result (λ g. (g.base ≡ base) × (g.nodes ≡ nodes)) }
@@ -91,7 +92,6 @@ fn put_message(net: &Network, given: Given, k: u32, out: &mut [u8]) -> usize
 
 // Writes a network's rows as messages, and answers how many bytes they are. Refused as Base for a base whose last byte isn't 0, as Range for n, and
 // as Room for an output shorter than the messages; then nothing is written.
-#[tactic(auto, unfolding(response::specs::Messages::message_count_of, response::specs::Messages::entry_count_of, response::specs::Messages::messages_length_of))]
 pub fn write_messages(net: &Network, base: u32, out: &mut [u8]) -> Result<usize, Fault>
     ensures { Writes (write_of base (view net.now) out.old) result out.new }
 {

@@ -1,10 +1,10 @@
 -- The number of a fault, and of an answer.
 -- Assumes nothing.
 use Prim.Native.Nat.{ℕ, ◌<◌, ◌≤◌}
-use mathlib.Core.Path.{◌≡◌, refl}
+use mathlib.Core.Path.{◌≡◌, refl, ap}
 use mathlib.Core.Logic.{◌≢◌}
 use native.Mathlib.Omega.{arith}
-use Rattle.std.specs.Prelude.{Result, Ok, Err}
+use Rattle.std.specs.Prelude.{Result, Ok, Err, IsErrAnd}
 use Rattle.network.specs.Answered.{fault_number, answered}
 use Rattle.network.specs.declared.Fault.{Fault}
 use Rattle.network.specs.declared.Fault.TheVariants.{Cut, Kind, Range, Order, Form, Room, Mark, NoRoute, Broken, Label, Predecessor, List, Base, Message}
@@ -30,7 +30,7 @@ fault_range Message = (omega arith, omega arith)
 pub fault_some : (f : Fault) → fault_number f ≢ 0
 fault_some f z = omega (arith, (fault_range f).0)
 
--- an answer of another number is a refusal
-pub refused_some : {A : Type 0} (r : Result A Fault) → answered r ≢ 0 → (f : Fault) × (r ≡ Err f)
-refused_some (Ok x) n = absurd (n refl)
-refused_some (Err f) n = (f, refl)
+-- the number of a refusal that is passed on
+pub answered_err : {A : Type 0} (q : Result A Fault) (f : Fault) → IsErrAnd q (λ g. g ≡ f) → answered q ≡ fault_number f
+answered_err (Err g) f e = ap fault_number e
+answered_err (Ok x) f e = absurd e

@@ -23,7 +23,7 @@ const FIRST_ROW: usize = NODES * NODES;
 
 const FIRST_REPORT: usize = FIRST_ROW + NODES;
 
-// The rank of a pair among pairs.
+// The rank of a pair among pairs. Std has no `From<u32>` for `usize`.
 #[tactic(auto, unfolding(records::specs::Opening::arc_rank))]
 fn pair_rank(pair: Pair) -> usize
     requires sender_bound { pair.sender < 32 }
@@ -44,7 +44,7 @@ fn in_order(next: usize, rank: usize) -> Result<usize, Fault>
     Ok(rank + 1)
 }
 
-// The next functions place a record and answer the ranks above it, None for the end of the image.
+// The next functions place a record and answer the ranks above it, None for the end of the image. Each has a test, a rank and a call of its own.
 
 // Sets an arc of the image: Range for the pair or the cost, then Order.
 #[tactic(auto, using(memory::proofs::Laws::few, network::proofs::FaultLaws::pair_says), unfolding(records::specs::Opening::placed, records::specs::Opening::judged, records::specs::Opening::order_number, network::specs::Faults::first_number, network::specs::Network::outcome, records::specs::Opening::arc_number, network::specs::Faults::cost_fault, network::specs::Change::change_number, network::specs::Change::change_of))]

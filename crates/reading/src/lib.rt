@@ -23,6 +23,8 @@ fn get8(b: &[u8], i: usize) -> u32
     b.get(i).map_or(0, |x| u32::from(*x))
 }
 
+// The next two put halves together; `from_be_bytes` would want all bytes to be there.
+
 // The number in the two bytes from i on.
 #[tactic(auto, unfolding(records::specs::Numbers::num16, records::specs::Numbers::num8))]
 fn get16(b: &[u8], i: usize) -> u32

@@ -18,7 +18,7 @@ pub const ROUND_BODY: usize = 128;
 pub const GRADE_BODY: usize = 3;
 
 // A change of an arc.
-#[derive(Drop)]
+#[derive(Clone, Copy, PartialEq, Eq)]
 pub enum ArcChange {
     Set {
         sender: u32,
@@ -32,7 +32,7 @@ pub enum ArcChange {
 }
 
 // A record that was read: a change, a round or a refusal with its fault and place, and what else an image has.
-#[derive(Drop)]
+#[derive(Clone, Copy, PartialEq, Eq)]
 pub enum Event {
     End,
     Header {
@@ -62,7 +62,7 @@ pub enum Event {
 }
 
 // A record that was read, and the bytes that it takes, its kind byte among them; 0 where it was refused for its kind or was cut.
-#[derive(Drop)]
+#[derive(Clone, Copy, PartialEq, Eq)]
 pub struct Record {
     pub event: Event,
     pub used: usize,

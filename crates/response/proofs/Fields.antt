@@ -1,20 +1,19 @@
 -- The fields of an entry and of a header, as bytes and back, and metrics within their limits.
 -- Assumes nothing.
 use mathlib.Core.Path.{◌≡◌, refl, sym, ap, ◌∙◌}
-use mathlib.Core.Bool.{true, false, cond}
+use mathlib.Core.Bool.{false, ◌||◌}
 use mathlib.Core.List.{List, [], ◌∷◌, ◌++◌}
-use mathlib.Core.Logic.{◌⊎◌, inl, inr}
 use Prim.Native.Nat.{ℕ, suc, ◌+◌, ◌*◌, ◌/◌, ◌^◌, ◌<◌, ◌≤◌}
 use native.Mathlib.Numerals.{add-one}
 use native.Mathlib.Omega.{arith}
-use lib.Dec.{eqb, ltb}
 use lib.ListN.{length, take, drop, get_or}
 use lib.Seq.{drop-cons, drop-drop}
 use borrow.Rule.Slice.PartMut.{put_mid}
 use Rattle.std.specs.Int.{to_be_bytes, w32}
-use borrow.Author.Tests.{eqb-true, eqb-false, ne_eqb, lt-ltb, le-ltb, ltb-false, not-false}
+use Rattle.std.proofs.lemmas.Bool.Decides.{nat_tests}
+use Rattle.std.specs.Prelude.{Some, None, Result, Ok, Err}
+use Rattle.std.specs.Result.{OkIff, result_ok}
 use Rattle.ancestors.specs.Ancestors.{hops}
-use Rattle.ancestors.proofs.Cases.{bool_cases, le_or_lt, eqb_same, or_neither}
 use Rattle.network.specs.Network.{Row, none, root, via}
 use Rattle.records.specs.Numbers.{Bytes, be8, be16, be32, num8, num16, num32}
 use Rattle.records.proofs.NumberLaws.{be16_of, be32_of, num32_of}
@@ -30,33 +29,32 @@ use Rattle.response.proofs.Sizes.{entry_size}
 
 pub metric_says : (m : ℕ) → metric_fault m ≡ false → (1 ≤ m) × (m ≤ infinity)
 unfolding metric_fault
-metric_says m e =
-    let a = or_neither (eqb m 0) (ltb infinity m) e in
-    (omega (arith, eqb-false m 0 a.0), ltb-false infinity m a.1)
-
-metric_free : (m : ℕ) → 1 ≤ m → m ≤ infinity → metric_fault m ≡ false
-unfolding metric_fault
-metric_free m a b = rw (ne_eqb m 0 (λ e. omega arith), le-ltb infinity m b)
+metric_says m e = (grind (arith, nat_tests), grind (arith, nat_tests))
 
 hops_right : (h : ℕ) → metric_fault (hops_metric_of h) ≡ false
-unfolding hops_metric_of
-hops_right h = go (le_or_lt (h + 1) 15)
-  where
-    go : (h + 1 ≤ 15) ⊎ (15 < h + 1) → metric_fault (cond (ltb 15 (h + 1)) infinity (h + 1)) ≡ false
-    go (inl a) = rw (le-ltb 15 (h + 1) a) (metric_free (h + 1) (omega arith) (omega arith))
-    go (inr a) = rw (lt-ltb 15 (h + 1) a) (metric_free infinity (omega arith) (omega arith))
+unfolding hops_metric_of metric_fault
+hops_right h = grind (arith, nat_tests)
 
 -- a row's metric is 1 to 16
 pub metric_right : (w : Row) → metric_fault (metric w) ≡ false
-unfolding metric
-metric_right none = metric_free infinity (omega arith) (omega arith)
+unfolding metric metric_fault
+metric_right none = refl
 metric_right (root l) = hops_right (hops l)
 metric_right (via d p l) = hops_right (hops l)
 
--- ---- numbers in their places
+-- a number as a byte, where it is below 256
+module _ {E : Type 0} (w : ℕ) where
+  pub byte_some : (r : Result ℕ E) {m : ℕ} → OkIff r (w < 256) w → Some m ≡ result_ok r → m ≡ w
+  byte_some (Ok x) {m} h e =
+      let s : m ≡ x = cc in
+      s ∙ h.1
+  byte_some (Err d) h e = cc
 
-same : (v w : ℕ) → differs v w ≡ false → v ≡ w
-same v w e = eqb-true v w (not-false _ e)
+  pub byte_none : (r : Result ℕ E) → OkIff r (w < 256) w → None ≡ result_ok r → 256 ≤ w
+  byte_none (Ok x) h e = cc
+  byte_none (Err d) h e = omega arith
+
+-- ---- numbers in their places
 
 module _ (b : List ℕ) where
   two_at : (i : ℕ) → i + 2 ≤ length b → take 2 (drop i b) ≡ get_or b i 0 ∷ get_or b (i + 1) 0 ∷ []
@@ -95,41 +93,27 @@ module _ (a : ℕ) (b : List ℕ) where
   -- no field is wrong
   pub entry_says : entry_fault a b ≡ false → Fields × (metric_fault (entry_metric b) ≡ false)
   unfolding entry_fault entry_metric
-  entry_says e =
-      let f = or_neither _ _ e in
-      let g = or_neither _ _ f.1 in
-      let h = or_neither _ _ g.1 in
-      let i = or_neither _ _ h.1 in
-      let j = or_neither _ _ i.1 in
-      (record { family = same _ _ f.0; tag = same _ _ g.0; address = same _ _ h.0; mask = same _ _ i.0; next_hop = same _ _ j.0 }, j.1)
+  entry_says e = (
+    record {
+      family = grind (arith, nat_tests);
+      tag = grind (arith, nat_tests);
+      address = grind (arith, nat_tests);
+      mask = grind (arith, nat_tests);
+      next_hop = grind (arith, nat_tests);
+    },
+    grind (arith, nat_tests),
+  )
 
   -- with these fields the metric decides
   pub entry_by : Fields → entry_fault a b ≡ metric_fault (entry_metric b)
   unfolding entry_fault entry_metric
-  entry_by f = rw (f.family, f.tag, f.address, f.mask, f.next_hop, eqb_same a)
+  entry_by f = grind (arith, nat_tests)
 
   -- by its numbers of four bytes
-  pub fields_by : Bytes b → num32 b 0 ≡ 131072 → num32 b 4 ≡ a → num32 b 8 ≡ mask → num32 b 12 ≡ 0 → Fields
-  unfolding num32
-  fields_by bytes p q r s =
-      let l = low b bytes 2 in
-      record { family = omega arith; tag = omega arith; address = q; mask = r; next_hop = s }
-
-  pub family_same : Fields → num32 b 0 ≡ 131072
-  unfolding num32
-  family_same f = omega (arith, f.family, f.tag)
-
-  -- what the reader of an entry answers
-  module _ {A : Type 0} (none some : A) where
-    pub entry_wrong : (Fields → metric_fault (entry_metric b) ≡ false → ⊥) → none ≡ cond (entry_fault a b) none some
-    entry_wrong h = go (bool_cases (entry_fault a b))
-      where
-        go : (entry_fault a b ≡ true) ⊎ (entry_fault a b ≡ false) → none ≡ cond (entry_fault a b) none some
-        go (inl e) = rw e
-        go (inr e) = let s = entry_says e in absurd (h s.0 s.1)
-
-    pub entry_right : Fields → 1 ≤ entry_metric b → entry_metric b ≤ infinity → some ≡ cond (entry_fault a b) none some
-    entry_right f p q = rw (entry_by f, metric_free (entry_metric b) p q)
+  pub entry_words : Bytes b
+      → entry_fault a b ≡ (differs (num32 b 0) 131072 || (differs (num32 b 4) a || (differs (num32 b 8) mask || (differs (num32 b 12) 0 || metric_fault (num32 b 16)))))
+  unfolding entry_fault num32
+  entry_words bytes = let l = low b bytes 2 in grind (arith, nat_tests)
 
   -- the bytes of such an entry
   pub entry_back : Bytes b → entry_length ≤ length b → Fields → take entry_length b ≡ entry a (entry_metric b)
@@ -203,14 +187,7 @@ module _ (b : List ℕ) where
 
   pub header_says : header_fault b ≡ false → Header
   unfolding header_fault
-  header_says e =
-      let f = or_neither _ _ e in
-      let g = or_neither _ _ f.1 in
-      record { command = same _ _ f.0; version = same _ _ g.0; zeros = same _ _ g.1 }
-
-  pub header_by : Header → header_fault b ≡ false
-  unfolding header_fault
-  header_by h = rw (h.command, h.version, h.zeros)
+  header_says e = record { command = grind (arith, nat_tests); version = grind (arith, nat_tests); zeros = grind (arith, nat_tests) }
 
   pub header_back : Bytes b → header_length ≤ length b → Header → take header_length b ≡ header
   unfolding header be8 num8
@@ -218,18 +195,14 @@ module _ (b : List ℕ) where
       take_next 2 2 b 0 ∙ rw (two_at b 0 (omega arith), ← be16_at b bytes 2 (omega arith), h.zeros, h.command, h.version)
 
   -- as one number of four bytes
-  pub header_word : Bytes b → num32 b 0 ≡ 33685504 → Header
-  unfolding num32 num16 num8
-  header_word bytes e =
+  pub header_word : Bytes b → header_fault b ≡ differs (num32 b 0) 33685504
+  unfolding header_fault num32 num16 num8
+  header_word bytes =
       let p = bytes 0 in
       let q = bytes 1 in
       let r = bytes 2 in
       let s = bytes 3 in
-      record { command = omega arith; version = omega arith; zeros = omega arith }
-
-  pub header_same : Header → num32 b 0 ≡ 33685504
-  unfolding num32 num16 num8
-  header_same h = omega (arith, h.command, h.version, h.zeros)
+      grind (arith, nat_tests)
 
 pub written_header : (r : List ℕ) → header_fault (header ++ r) ≡ false
 unfolding header header_fault num16 num8 be16 be8

@@ -8,7 +8,7 @@ use lib.ListN.{length, length-append}
 use Rattle.network.specs.Faults.{max_nodes}
 use Rattle.records.specs.Numbers.{be8, be16, be32}
 use Rattle.records.specs.Image.{each}
-use Rattle.records.proofs.Each.{each_same, each_zero, each_last, each_next, each_split}
+use Rattle.records.proofs.Each.{each_zero, each_last, each_next, each_split}
 use Rattle.response.specs.Messages.{address, entry, entry_length, header, header_length, entries, message, message_count_of, first_node, entry_count_of, messages, messages_length_of, max_messages}
 use Rattle.response.specs.Reading.{full_length}
 use Rattle.response.proofs.Pieces.{each_size}
@@ -111,15 +111,6 @@ module _ (n : ℕ) where
   pub message_room : (k : ℕ) → k < message_count_of n → (k * header_length + nodes_before n k * entry_length) + (header_length + entry_count_of n k * entry_length) ≤ messages_length_of n
   unfolding messages_length_of
   message_room k h = omega (arith, before_next k, before_most (k + 1))
-
--- metrics that agree on the nodes give the same messages
-pub messages_same : (base : ℕ) (f g : ℕ → ℕ) (n : ℕ) → ((y : ℕ) → y < n → f y ≡ g y) → messages base f n ≡ messages base g n
-unfolding messages message entries
-messages_same base f g n h =
-    each_same (λ k. message base f (first_node k) (entry_count_of n k)) (λ k. message base g (first_node k) (entry_count_of n k)) 0 (message_count_of n)
-    (λ k p q. ap (λ (l : List ℕ). header ++ l)
-    (each_same (λ i. entry (address base i) (f i)) (λ i. entry (address base i) (g i)) (first_node k) (entry_count_of n k)
-    (λ i r s. ap (entry (address base i)) (h i (omega (arith, entry_count_within n k (omega arith)))))))
 
 -- ---- the most
 

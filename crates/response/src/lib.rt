@@ -24,7 +24,8 @@ pub const HEADER_LENGTH: usize = 4;
 
 pub const ENTRY_LENGTH: usize = 20;
 
-// The entries of each message but the last, as a number and as a size, and the bytes of such a message.
+// The entries of each message but the last, as a number and as a size, and the bytes of such a message. Here and in `messages` casts from u32 to usize
+// stay: the library has no From for it.
 pub const MOST_ENTRIES: u32 = 25;
 
 const ENTRIES: usize = MOST_ENTRIES as usize;
@@ -104,11 +105,12 @@ pub fn hops_metric(hops: u32) -> u8
     if 15 <= hops {
         return INFINITY;
     }
+    // At most 15, so that nothing is cut off.
     (hops + 1) as u8
 }
 
 // Writes an entry of the address a and the metric m at the front of an output, and answers the bytes used; in a shorter output nothing is written, and
-// the answer is 0.
+// the answer is 0. It stays 0 and does not become a Result: the call could not fail.
 pub fn put_entry(a: u32, m: u8, out: &mut [u8]) -> usize
     ensures { Wrote (copied (entry a m) out.old) out.old out.new result }
 {
@@ -132,9 +134,9 @@ pub fn read_entry(part: &[u8], a: u32) -> Option<u8>
     {
         return None;
     }
-    let m = reading::word(part, 16);
-    if m == 0 || u32::from(INFINITY) < m {
+    let m = u8::try_from(reading::word(part, 16)).ok()?;
+    if m == 0 || INFINITY < m {
         return None;
     }
-    Some(m as u8)
+    Some(m)
 }

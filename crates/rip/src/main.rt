@@ -11,7 +11,7 @@ use std::env::{Env, FillError};
 use std::io;
 use std::io::Write;
 
-// One byte more than the longest run, and than the most messages, so that a longer input is known without reading all of it.
+// Rooms of fixed size are lent to readers: there is no heap. One byte more than the longest run, and than the most messages, so that a longer input is known without reading all of it.
 const RUN_ROOM: usize = text::MAX_INPUT + 1;
 
 const MESSAGES_ROOM: usize = response::MAX_MESSAGES + 1;

@@ -41,6 +41,7 @@ fn walk_back<'a>(net: &Network, node: u32, bytes: &'a mut [u8; NODES]) -> Option
         match row {
             RowRead::NoRoute => return None,
             RowRead::Origin { list: _, hops: _ } => {
+                // A node that has a row is below 32.
                 bytes[left] = y as u8;
                 return Some(&bytes[left..]);
             }

@@ -5,7 +5,7 @@
 
 use std::io::Write;
 
-// One byte more than the longest input, so that a longer one is known without reading all of it.
+// A room of fixed size is lent to the reader: there is no heap. One byte more than the longest input, so that a longer one is known without reading all of it.
 const ROOM: usize = text::MAX_INPUT + 1;
 
 fn print_table(rt: &HostRuntime, run: &[u8]) {

@@ -1,10 +1,11 @@
 -- Marks tested and heard a word at a time are the marks of the definition.
 -- Assumes nothing.
 use mathlib.Core.Path.{◌≡◌, refl, sym, ap, ap₂, ◌∙◌}
-use mathlib.Core.Bool.{Bool, true, false, not, ◌&&◌}
+use mathlib.Core.Bool.{Bool, true, false, not, ◌&&◌, ◌||◌}
 use mathlib.Core.Logic.{◌⊎◌, inl, inr}
 use mathlib.Core.List.{List}
-use Prim.Native.Nat.{ℕ, ◌+◌, ◌<◌, ◌≤◌}
+use Prim.Native.Nat.{ℕ, ◌+◌, ◌^◌, ◌<◌, ◌≤◌}
+use native.Mathlib.Numerals.{add-one}
 use native.Mathlib.Omega.{arith}
 use lib.Bits.{bit_and}
 use Rattle.std.proofs.lemmas.Nat.{and_comm, and_mask}
@@ -13,13 +14,13 @@ use Rattle.std.proofs.Math.Nat.{mod-eq_of_lt}
 use lib.Dec.{eqb}
 use lib.ListN.{length, get_or, replicate}
 use borrow.Author.Tests.{lt-ltb, eqb-false}
-use Rattle.ancestors.specs.Ancestors.{has}
+use Rattle.ancestors.specs.Ancestors.{has, inside}
 use Rattle.ancestors.proofs.Cases.{bool_cases, never}
 use Rattle.network.specs.Faults.{pair_fault_of}
-use Rattle.network.specs.Round.{marked, stray_mark, idle_mark, every_arc}
+use Rattle.network.specs.Round.{marked, some, stray_mark, idle_mark, every_arc}
 use Rattle.network.specs.Network.{Net}
 use Rattle.network.specs.Arcs.{arcs_to, senders}
-use Rattle.network.proofs.Arcs.{arcs_exact, stray_bit, some_cost, senders_fit}
+use Rattle.network.proofs.Arcs.{arcs_exact, outside_some, stray_bit, some_cost, senders_fit}
 use Rattle.network.proofs.Marking.{some_ext, some_none, marked_fails}
 use Rattle.memory.specs.Layout.{word_count, look, view, arc_bits}
 use Rattle.memory.proofs.ArcLaws.{arcs_word}
@@ -63,7 +64,16 @@ module _ (xs ms : List ℕ) (e : idle_mark (view xs).cost (marked ms) ≡ false)
       go s r (inl m) (inr f) = rw (m, f)
       go s r (inl m) (inl f) = never _ (on_arc s r m) (sym (arc_is xs s r) ∙ present_out (view xs).nodes (look xs) s r f)
 
--- ---- marks tested against words
+-- ---- marks tested against words, receiver by receiver
+
+pub outside_none : (n : ℕ) (ms ws : List ℕ) → outside_rows n ms ws 0 ≡ false
+unfolding outside_rows some
+outside_none n ms ws = refl
+
+pub outside_next : (n : ℕ) (ms ws : List ℕ) (k : ℕ) → get_or ms k 0 < 2 ^ 32
+    → outside_rows n ms ws (k + 1) ≡ (outside_rows n ms ws k || not (inside (get_or ms k 0) (bit_and (get_or ws k 0) (senders n k))))
+unfolding outside_rows outside some
+outside_next n ms ws k fits = rw (add-one, outside_some (get_or ms k 0) (bit_and (get_or ws k 0) (senders n k)) fits)
 
 -- against words of ones
 pub stray_words : (n : ℕ) (ms : List ℕ) → outside_rows n ms (replicate 32 4294967295) 32 ≡ stray_rows n ms 32

@@ -7,7 +7,7 @@ use mathlib.Core.List.{List}
 use Prim.Native.Nat.{ℕ, ◌+◌, ◌-◌, ◌*◌, ◌<◌, ◌≤◌}
 use native.Mathlib.Omega.{arith}
 use lib.Dec.{eqb, ltb}
-use lib.ListN.{length, get_or, take, drop, length-take, length-drop}
+use lib.ListN.{length, get_or, set, take, drop, length-take, length-drop}
 use lib.Seq.{get_or-take, get_or-drop}
 use borrow.Author.Tests.{lt-ltb, le-ltb, lt-leb, ne_eqb}
 use Rattle.ancestors.specs.Ancestors.{has, cut}
@@ -24,10 +24,11 @@ use Rattle.std.specs.Result.{result_unwrap_or}
 use Rattle.network.specs.declared.Fault.{Fault}
 use Rattle.network.specs.declared.Route.{Route}
 use Rattle.network.proofs.Choosing.{choice_ext, came}
-use Rattle.memory.specs.Layout.{word_count, row_of, look, view, arc_bits, arc_costs, held_labels, held_lists}
+use Rattle.memory.specs.Layout.{word_count, row_of, look, view, row_labels, row_predecessors, row_lists, arc_bits, arc_costs, held_labels, held_lists}
+use Rattle.routing.specs.Inner.{new_row}
 use Rattle.network.proofs.Effects.{same_rows}
 use Rattle.memory.proofs.Laws.{few}
-use Rattle.memory.proofs.Store.{Has, present_in, present_out, cost_by, held_by}
+use Rattle.memory.proofs.Store.{Has, present_in, present_out, cost_by, held_by, store_row}
 
 -- ---- the words of one receiver
 
@@ -88,7 +89,7 @@ module _ (xs : List ℕ) (size : length xs ≡ word_count) (n y : ℕ) (is : n �
   held_at s h =
       (λ j. cond (arc_at_lem xs n y is below arcs bits s h j) (report_of (word_at held_labels (omega arith) s h j) (word_at held_lists (omega arith) s h j)) empty) ∙ held_by xs s y
 
-  pub choose_words : choose_of arcs costs labels lists y ≡ chosen (choice (view xs).nodes (λ s. (view xs).cost s y) (λ s. (view xs).held s y) y)
+  choose_words : choose_of arcs costs labels lists y ≡ chosen (new_row (view xs) y)
   unfolding choose_of words_fault
   choose_words =
       let a = part_length xs (arc_costs + y * 32) n (room arc_costs (omega arith)) in
@@ -101,18 +102,33 @@ module _ (xs : List ℕ) (size : length xs ≡ word_count) (n y : ℕ) (is : n �
 -- ---- the words of a choice are those of the chosen row
 
 -- the words of a network are never refused
-pub choice_row : (r : Result (Option Route) Fault) (w : Row) → choice_means r ≡ chosen w → row_means (result_unwrap_or r None) ≡ w
+choice_row : (r : Result (Option Route) Fault) (w : Row) → choice_means r ≡ chosen w → row_means (result_unwrap_or r None) ≡ w
 unfolding row_means choice_means
 choice_row (Ok w) row e = ap (λ (a : ChoiceAnswer). a.row) e
 choice_row (Err f) row e = ap (λ (a : ChoiceAnswer). a.row) e
 
-pub route_words : (n : ℕ) (cost : ℕ → ℕ) (held : ℕ → Report) (y : ℕ) (r : Option Route) (w : Route) → w ≡ unwrap_or r (record { label = 0; predecessor = 0; list = 0 })
-    → row_means r ≡ choice n cost held y → row_of w.label w.predecessor w.list ≡ choice n cost held y
+pub chosen_row : (xs : List ℕ) (n y arcs : ℕ) (r : Result (Option Route) Fault) (o : Option Route) → length xs ≡ word_count → n ≡ (view xs).nodes
+    → y < (view xs).nodes → arcs ≡ cond (ltb y 32) (cut (look xs (arc_bits + y)) y) (look xs (arc_bits + y))
+    → choice_means r ≡ choose_of arcs (part xs (arc_costs + y * 32) n) (part xs (held_labels + y * 32) n) (part xs (held_lists + y * 32) n) y → o ≡ result_unwrap_or r None
+    → row_means o ≡ new_row (view xs) y
+chosen_row xs n y arcs r o size is below bits e q = ap row_means q ∙ choice_row r _ (e ∙ choose_words xs size n y is below arcs bits)
+
+-- no route is words of 0
+route_words : (x : Net) (y : ℕ) (r : Option Route) (w : Route) → w ≡ unwrap_or r (record { label = 0; predecessor = 0; list = 0 }) → row_means r ≡ new_row x y
+    → row_of w.label w.predecessor w.list ≡ new_row x y
 unfolding row_of row_means
-route_words n cost held y None w is e = rw is e
-route_words n cost held y (Some v) w is e =
-    let k = came n cost held y v.label v.predecessor v.list (sym e) in
+route_words x y None w is e = rw is e
+route_words x y (Some v) w is e =
+    let k = came x.nodes (λ s. x.cost s y) (λ s. x.held s y) y v.label v.predecessor v.list (sym e) in
     rw (is, ne_eqb v.list 0 (λ z. put_some k.offered.list y (sym k.list ∙ z))) e
+
+pub stored_row : (xs : List ℕ) (y : ℕ) (r : Option Route) (w : Route) → length xs ≡ word_count → y < (view xs).nodes → y ≢ (view xs).origin
+    → w ≡ unwrap_or r (record { label = 0; predecessor = 0; list = 0 }) → row_means r ≡ new_row (view xs) y
+    → view (set (set (set xs (row_labels + y) w.label) (row_predecessors + y) w.predecessor) (row_lists + y) w.list)
+    ≡ with_row (view xs) y (new_row (view xs) y)
+stored_row xs y r w size below relay is e =
+    store_row xs size y w.label w.predecessor w.list below relay
+    ∙ ap (with_row (view xs) y) (route_words (view xs) y r w is e)
 
 -- ---- row by row
 
@@ -121,16 +137,13 @@ unfolding renew_to
 renewed_none x = same_rows x (λ y. rw (le-ltb y 0 (omega arith)))
 
 renewed_step : (x : Net) (k : ℕ) → k ≢ x.origin
-    → with_row (renew_to k x) k (choice x.nodes (λ s. (renew_to k x).cost s k) (λ s. (renew_to k x).held s k) k) ≡ renew_to (k + 1) x
+    → with_row (renew_to k x) k (new_row (renew_to k x) k) ≡ renew_to (k + 1) x
 unfolding renew_to with_row set_at
 renewed_step x k o = same_rows x (λ y. go y (eq_or_ne y k))
   where
-    new : ℕ → Row
-    new y = choice x.nodes (λ s. x.cost s y) (λ s. x.held s y) y
-
     go : (y : ℕ) → (y ≡ k) ⊎ (y ≢ k)
-        → cond (eqb y k) (new k) (cond (ltb y k && not (eqb y x.origin)) (new y) (x.row y)) ≡ cond
-        (ltb y (k + 1) && not (eqb y x.origin)) (new y) (x.row y)
+        → cond (eqb y k) (new_row x k) (cond (ltb y k && not (eqb y x.origin)) (new_row x y) (x.row y)) ≡ cond
+        (ltb y (k + 1) && not (eqb y x.origin)) (new_row x y) (x.row y)
     go y (inl e) = rw (e, eqb_same k, lt-ltb k (k + 1) (omega arith), ne_eqb k x.origin o)
     go y (inr n) = rw (ne_eqb y k n, ltb_other y k n)
 
@@ -138,11 +151,8 @@ pub renewed_origin : (x : Net) (k : ℕ) → k ≡ x.origin → renew_to k x ≡
 unfolding renew_to
 renewed_origin x k o = same_rows x (λ y. go y (eq_or_ne y k))
   where
-    new : ℕ → Row
-    new y = choice x.nodes (λ s. x.cost s y) (λ s. x.held s y) y
-
     go : (y : ℕ) → (y ≡ k) ⊎ (y ≢ k)
-        → cond (ltb y k && not (eqb y x.origin)) (new y) (x.row y) ≡ cond (ltb y (k + 1) && not (eqb y x.origin)) (new y) (x.row y)
+        → cond (ltb y k && not (eqb y x.origin)) (new_row x y) (x.row y) ≡ cond (ltb y (k + 1) && not (eqb y x.origin)) (new_row x y) (x.row y)
     go y (inl e) = rw (← o, e, eqb_same k, lt-ltb k (k + 1) (omega arith), le-ltb k k (omega arith))
     go y (inr n) = rw (ltb_other y k n)
 
@@ -157,10 +167,10 @@ module _ (xs ys : List ℕ) (k : ℕ) (e : view ys ≡ renew_to k (view xs)) whe
   renewing_origin = ap (λ (x : Net). x.origin) e
 
   pub renewing_next : (zs : List ℕ) → k ≢ (view xs).origin
-      → view zs ≡ with_row (view ys) k (choice (view ys).nodes (λ s. (view ys).cost s k) (λ s. (view ys).held s k) k) → view zs ≡ renew_to (k + 1) (view xs)
+      → view zs ≡ with_row (view ys) k (new_row (view ys) k) → view zs ≡ renew_to (k + 1) (view xs)
   unfolding renew_to
   renewing_next zs o h =
-      h ∙ (λ j. with_row (e j) k (choice (e j).nodes (λ s. (e j).cost s k) (λ s. (e j).held s k) k)) ∙ renewed_step (view xs) k o
+      h ∙ ap (λ (x : Net). with_row x k (new_row x k)) e ∙ renewed_step (view xs) k o
 
 pub renewing_done : (xs ys : List ℕ) (k : ℕ) → k ≡ (view xs).nodes → view ys ≡ renew_to k (view xs) → view ys ≡ renew (view xs)
 unfolding renew

@@ -3,8 +3,8 @@
 use Rattle.std.specs.Prelude.{◌≡◌, Bool, not, ◌&&◌, List, Option, Some, None, ℕ, ◌<◌, eqb, ltb, get_or}
 use Rattle.std.specs.Int.Bits.{bit_and}
 use Rattle.ancestors.specs.Ancestors.{has}
-use Rattle.network.specs.Network.{Net, with_rows}
-use Rattle.network.specs.Round.{Marks, report, hear, marked, some, every_arc}
+use Rattle.network.specs.Network.{Row, Net, with_rows}
+use Rattle.network.specs.Round.{Marks, report, hear, choice, marked, some, every_arc}
 use Rattle.network.specs.Arcs.{arcs_to, senders}
 use Rattle.memory.specs.Layout.{word, row_of, look, view, row_labels, row_predecessors, row_lists}
 
@@ -27,6 +27,10 @@ hear_arcs m x = hear (λ s r. m s r && every_arc x s r) x
 unfoldable pub given : Net → Option (List ℕ) → Marks
 given x None = every_arc x
 given x (Some ms) = marked ms
+
+-- y's new row
+abbrev pub new_row : Net → ℕ → Row
+new_row x y = choice x.nodes (λ s. x.cost s y) (λ s. x.held s y) y
 
 -- the pair s, r alone, where t holds
 unfoldable pub one_mark : ℕ → ℕ → Bool → Marks

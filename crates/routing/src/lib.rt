@@ -1,18 +1,20 @@
 // Rounds on a network in words that the caller lends: hearing, offers and new rows.
 //
 // Contracts go through `memory`'s `view` and hold for any words. A refused round leaves every word as it stood. No public function has a
-// precondition; the private ones ask for the number of words and for what their callers have tested.
-#![tactic(auto, using(memory::proofs::Laws::few))]
+// precondition; the private ones ask for what their callers have tested.
+//
+// Nodes are numbers of 32 bits, and indices here, for which std has no `From<u32>`: `as usize`, and `as u32` of what is below 32.
+#![tactic(auto)]
 
 ghost use Rattle.std.specs.Prelude.{◌≡◌, ◌≢◌, true, cond, ℕ, ◌<◌, length, set, IfSome, option_map};
 ghost use Rattle.network.specs.Answered.{answered};
 ghost use Rattle.network.specs.Network.{with_row};
-ghost use Rattle.network.specs.Round.{choice, renew, round, every_arc, round_of, full_round_of};
+ghost use Rattle.network.specs.Round.{renew, round, every_arc, round_of, full_round_of};
 ghost use Rattle.network.specs.Words.{row_means};
 ghost use Rattle.network.specs.Arcs.{arcs_to};
 ghost use Rattle.memory.specs.Layout.{word_count, view};
 ghost use Rattle.memory.specs.Answers.{Leaves};
-ghost use Rattle.routing.specs.Inner.{by_words, Primed, hear_arcs, given, one_mark, row_marks, outside_rows};
+ghost use Rattle.routing.specs.Inner.{by_words, Primed, hear_arcs, given, new_row, one_mark, row_marks, outside_rows};
 
 use memory::{
     ARCS, COSTS, HELD_LABELS, HELD_LISTS, Network, ROW_LABELS, ROW_LISTS, ROW_PREDECESSORS,
@@ -39,6 +41,7 @@ fn put_word(net: &mut Network, at: usize, word: u32)
 }
 
 // The origin's words become those of its row, which is not read from memory.
+#[tactic(auto, using(memory::proofs::Laws::few, crate::proofs::Hearing::primes, crate::proofs::Hearing::unprimed))]
 fn prime(net: &mut Network)
     ensures { Primed net.old net.new }
 {
@@ -53,6 +56,7 @@ fn prime(net: &mut Network)
     }
 }
 
+// Both words are read before the test, so that the compiler selects without a branch.
 fn either(marked: bool, new: u32, old: u32) -> u32
     ensures { result ≡ cond marked new old }
 {
@@ -60,6 +64,7 @@ fn either(marked: bool, new: u32, old: u32) -> u32
 }
 
 // A marked arc holds what its sender's row reports; an unmarked one keeps its report. What is stored at a pair without an arc plays no part.
+#[tactic(auto, using(crate::proofs::Hearing::hear_arc))]
 fn hear_arc(net: &mut Network, sender: Node, receiver: Node, told: bool)
     ensures { by_words net.new ≡ hear_arcs (one_mark sender.index receiver.index told) (by_words net.old) }
 {
@@ -74,25 +79,20 @@ fn hear_few(net: &mut Network, receiver: Node, word: u32)
     ensures { by_words net.new ≡ hear_arcs (row_marks receiver.index word 32) (by_words net.old) }
 {
     for s in ancestors::nodes_of(word) {
-        let sender = Node { index: s as usize };
-        hear_arc(net, sender, receiver, true);
+        hear_arc(net, Node { index: s as usize }, receiver, true);
     }
 }
 
 // Four senders at a time: the compiler makes vector instructions of four arcs. The last ones may be no nodes.
+#[tactic(auto, using(memory::proofs::Laws::few, crate::proofs::Hearing::row_begun))]
 fn hear_fours(net: &mut Network, receiver: Node, word: u32)
     ensures { by_words net.new ≡ hear_arcs (row_marks receiver.index word 32) (by_words net.old) }
 {
     let n = memory::nodes(net) as usize;
     for s in (0..n).step_by(4) {
         for k in 0usize..4 {
-            let sender = Node { index: s + k };
-            hear_arc(
-                net,
-                sender,
-                receiver,
-                ancestors::listed(word, (s + k) as u32),
-            );
+            let told = ancestors::listed(word, (s + k) as u32);
+            hear_arc(net, Node { index: s + k }, receiver, told);
         }
     }
 }
@@ -109,6 +109,7 @@ fn hear_row(net: &mut Network, receiver: Node, word: u32)
 }
 
 // The arcs of a receiver, as a word.
+#[tactic(auto, using(memory::proofs::ArcLaws::arcs_word))]
 fn arcs_of(net: &Network, receiver: Node) -> u32
     ensures { result ≡ arcs_to (view net.now) receiver.index }
 {
@@ -116,6 +117,7 @@ fn arcs_of(net: &Network, receiver: Node) -> u32
 }
 
 // Hears the marks, by receiver, or every arc.
+#[tactic(auto, using(memory::proofs::Laws::few, crate::proofs::Hearing::rows_begun, crate::proofs::Hearing::rows_done))]
 fn hear_marks(net: &mut Network, marks: Option<&[u32]>)
     requires { IfSome marks (λ words. length words.now ≡ 32) }
     ensures { by_words net.new ≡ hear_arcs (given (view net.old) (option_map (λ words. words.now) marks.entry)) (by_words net.old) }
@@ -131,10 +133,11 @@ fn hear_marks(net: &mut Network, marks: Option<&[u32]>)
 
 // ---- new rows
 
-// The words of a network are never refused.
+// The row that a receiver chooses. The words of a network are never refused.
+#[tactic(auto, using(memory::proofs::Laws::few))]
 fn choose_row(net: &Network, receiver: usize) -> Option<Route>
     requires node { receiver < (view net.now).nodes }
-    ensures { row_means result ≡ choice (view net.now).nodes (λ s. (view net.now).cost s receiver) (λ s. (view net.now).held s receiver) receiver }
+    ensures { row_means result ≡ new_row (view net.now) receiver }
 {
     let n = memory::nodes(net) as usize;
     let arcs = ancestors::left_out(net[ARCS + receiver], receiver as u32);
@@ -151,11 +154,12 @@ fn choose_row(net: &Network, receiver: usize) -> Option<Route>
     chosen.unwrap_or(None)
 }
 
-// No route is words of 0.
+// A receiver's new row; no route is words of 0.
+#[tactic(auto, using(memory::proofs::Laws::few))]
 fn renew_row(net: &mut Network, receiver: usize)
     requires node { receiver < (view net.old).nodes }
     requires not_origin { receiver ≢ (view net.old).origin }
-    ensures { view net.new ≡ with_row (view net.old) receiver (choice (view net.old).nodes (λ s. (view net.old).cost s receiver) (λ s. (view net.old).held s receiver) receiver) }
+    ensures { view net.new ≡ with_row (view net.old) receiver (new_row (view net.old) receiver) }
 {
     let none = Route {
         label: 0,
@@ -168,6 +172,7 @@ fn renew_row(net: &mut Network, receiver: usize)
     net[ROW_LISTS + receiver] = route.list;
 }
 
+#[tactic(auto, using(crate::proofs::Renewing::renewed_none, crate::proofs::Renewing::renewed_origin, crate::proofs::Renewing::renewing_nodes, crate::proofs::Renewing::renewing_origin, crate::proofs::Renewing::renewing_next, crate::proofs::Renewing::renewing_done))]
 fn renew_rows(net: &mut Network)
     ensures { view net.new ≡ renew (view net.old) }
 {
@@ -181,6 +186,7 @@ fn renew_rows(net: &mut Network)
 }
 
 // Hears the marks, or every arc, and then gives every node but the origin a new row.
+#[tactic(auto, using(crate::proofs::Rounding::advanced))]
 fn advance(net: &mut Network, marks: Option<&[u32]>)
     requires long { IfSome marks (λ words. length words.now ≡ 32) }
     requires on_arcs { (s r : ℕ) → given (view net.old) (option_map (λ words. words.now) marks) s r ≡ true → every_arc (view net.old) s r ≡ true }
@@ -193,7 +199,9 @@ fn advance(net: &mut Network, marks: Option<&[u32]>)
 
 // ---- refusals
 
-// Whether a mark of a receiver is not in its word of the words given, or out of range. All are passed without a branch, as vectors.
+// Whether a mark of a receiver is not in its word of the words given, or out of range. All are passed without a branch, as vectors: where a closure
+// gave each word, the compiler made none.
+#[tactic(auto, using(crate::proofs::Marks::outside_none, crate::proofs::Marks::outside_next))]
 fn any_outside(n: u32, marks: &[u32], words: &[u32]) -> bool
     requires marks_len { length marks.now ≡ 32 }
     requires words_len { length words.now ≡ 32 }
@@ -211,6 +219,7 @@ fn any_outside(n: u32, marks: &[u32], words: &[u32]) -> bool
 
 // A round on 32 words of marks; word r has bit s for "r heard s". Refused as Cut for another number of words; as Range for a mark out of range or
 // from a node to itself, anywhere; then as Mark for a mark without an arc, anywhere.
+#[tactic(auto, using(crate::proofs::Marks::stray_words, crate::proofs::Marks::idle_words, crate::proofs::Rounding::round_cut, crate::proofs::Rounding::round_stray, crate::proofs::Rounding::round_idle, crate::proofs::Rounding::marks_given, crate::proofs::Rounding::round_done))]
 pub fn round(net: &mut Network, marks: &[u32]) -> Result<(), Fault>
     ensures { Leaves (round_of (view net.old) marks.now) (answered result) net.old net.new }
 {
@@ -230,6 +239,7 @@ pub fn round(net: &mut Network, marks: &[u32]) -> Result<(), Fault>
 }
 
 // A round with every arc heard: each receiver's marks are the word of its arcs. It is never refused.
+#[tactic(auto, using(crate::proofs::Rounding::arcs_given, crate::proofs::Rounding::full_round_done))]
 pub fn full_round(net: &mut Network)
     ensures { Leaves (full_round_of (view net.old)) 0 net.old net.new }
 {

@@ -2,6 +2,8 @@
 //
 // The crate `network` has document 01's definitions; the calls on a whole network are in `memory` and `routing`.
 // No public function has a precondition.
+//
+// Senders are indices, for which std has no `From<u32>`; a cast to 32 bits is of a number that fits, as the check shows.
 #![tactic(auto)]
 
 ghost use Rattle.std.specs.Prelude.{◌≡◌, ◌||◌, ◌+◌, ◌<◌, ◌≤◌, length};
@@ -11,7 +13,7 @@ ghost use Rattle.network.specs.Words.{cost_of, offer_below, row_means, choose_of
 
 use network::{Fault, Route};
 
-// Whether either holds.
+// Whether either holds. A call and not `||` where a loop over words is to have no branch.
 pub fn or(a: bool, b: bool) -> bool
     ensures { result ≡ (a || b) }
 {
@@ -34,7 +36,7 @@ fn present(arcs: u32, sender: u32) -> bool
 }
 
 // What is kept of the senders that were passed: the least sum less one, the first that offers it, and one after which, and after the first, none does.
-#[derive(Drop)]
+#[derive(Clone, Copy)]
 struct Kept {
     most: u64,
     from: usize,

@@ -24,6 +24,8 @@ pub type Text = ArrayVec<u8, MAX_TEXT>;
 
 // ---- a line of the table
 
+// A number is written from a `usize`, for which std has no `From<u32>`.
+
 // Label, predecessor and hops of a relay with a route.
 #[tactic(auto, using(text::proofs::Adding::pushes), unfolding(text::specs::Text::field))]
 fn push_route(text: &mut Text, route: Route, hops: u32)

@@ -35,7 +35,7 @@ pub fn push_number<const N: usize>(text: &mut ArrayVec<u8, N>, before: &[u8], n:
     }
 }
 
-// The line of a refusal, number and place.
+// The line of a refusal, by its number and its place: this crate knows no faults, as arguments of programs need it without networks.
 #[tactic(auto, using(crate::proofs::Adding::pushes), unfolding(crate::specs::Text::stop_line, crate::specs::Text::field))]
 pub fn push_stop<const N: usize>(text: &mut ArrayVec<u8, N>, number: u8, place: usize)
     ensures { text.new.items ≡ added N (stop_line number place) text.old.items }

@@ -20,7 +20,7 @@ pub bounds-from-r : goal.bounds-from-r
 bounds-from-r c = omega (arith, few c.args.from.now.net.now)
 
 pub receiver_length-total-requires : goal.receiver_length-total-requires
-receiver_length-total-requires c = let s = c.args.from.now in word_of s.net.now s.arcs _ s.words (omega arith)
+receiver_length-total-requires c = let s = c.args.from.now in word_of s.net.now s.arcs.now _ s.words (omega arith)
 
 pub overflow_add-total : goal.overflow_add-total
 unfolding body_length

@@ -14,4 +14,4 @@ pub returns : goal.returns
 returns c =
     let a = c.args in
     let s = a.from.now in
-    c.listed.ensures ∙ ap (λ l. has l a.pair.sender) (word_of s.net.now s.arcs a.pair.receiver s.words c.requires.receiver_bound)
+    c.listed.ensures ∙ ap (λ l. has l a.pair.sender) (word_of s.net.now s.arcs.now a.pair.receiver s.words c.requires.receiver_bound)

@@ -10,7 +10,7 @@ use Rattle.memory.proofs.Laws.{few}
 use Rattle.records.specs.Records.{record_length}
 use Rattle.records.specs.Image.{each}
 use Rattle.filling.proofs.Parts.{wrote_as, wrote_then, room}
-use Rattle.image.specs.Lines.{row_at, arc_line, report_line}
+use Rattle.image.specs.Lines.{arc_at, row_at, report_at}
 use Rattle.image.proofs.Parting.{image_parts, image_long, header_end}
 use Rattle.image.proofs.write_all.Goals as goal
 
@@ -21,45 +21,45 @@ put_header-arcs-requires c =
     let long = image_long (view w) n.result _ n.ensures refl (few w) in
     omega arith
 
-pub write_each-requires : goal.write_each-requires
-write_each-requires c κs within =
+pub write_lines-requires : goal.write_lines-requires
+write_lines-requires c κs within =
     let w = c.args.from.now.net.now in
     let n = c.nodes-n in
     let long = image_long (view w) n.result _ n.ensures refl (few w) in
     let h = c.put_header-arcs.ensures in (
-      simp (in_lives, within.0, within.1.0, within.1.1.0) (search rules),
-      (
-        record { may = λ i part b room. search (rules, of_calls); does = λ i part r left b room post. search (rules, of_calls) },
-        room (length (each (arc_line (view w) n.result) 0 n.result)) h (omega (arith, header_end _ _ h)),
-      ),
-    )
-
-pub write_each-requires-2 : goal.write_each-requires-2
-write_each-requires-2 c κs within =
-    let w = c.args.from.now.net.now in
-    let n = c.nodes-n in
-    let long = image_long (view w) n.result _ n.ensures refl (few w) in
-    let h = c.put_header-arcs.ensures in
-    let a = wrote_then h c.write_each.ensures in (
       simp (in_lives, within.0, within.1.0) (search rules),
       (
-        record { may = λ i part b room. search (rules, of_calls); does = λ i part r left b room post. search (rules, of_calls) },
-        room (length (each (row_at (view w)) 0 n.result)) a (omega (arith, header_end _ _ h, c.write_each.ensures.used)),
+        λ s m. record { may = λ r part b room. search (rules, of_calls); does = λ r part k left b room post. search (rules, of_calls) },
+        room (length (each (λ s. each (arc_at (view w) s) 0 n.result) 0 n.result)) h (omega (arith, header_end _ _ h)),
       ),
     )
 
-pub write_each-requires-3 : goal.write_each-requires-3
-write_each-requires-3 c κs within =
+pub write_line-requires : goal.write_line-requires
+write_line-requires c κs within =
     let w = c.args.from.now.net.now in
     let n = c.nodes-n in
     let long = image_long (view w) n.result _ n.ensures refl (few w) in
     let h = c.put_header-arcs.ensures in
-    let y = wrote_then (wrote_then h c.write_each.ensures) c.write_each-2.ensures in (
-      simp (in_lives, within.0, within.1.0, within.1.1.0) (search rules),
+    let a = wrote_then h c.write_lines.ensures in (
+      simp (in_lives, within.0, within.1.0) (search rules),
       (
-        record { may = λ i part b room. search (rules, of_calls); does = λ i part r left b room post. search (rules, of_calls) },
-        room (length (each (report_line (view w) n.result) 0 n.result)) y
-            (omega (arith, header_end _ _ h, c.write_each.ensures.used, c.write_each-2.ensures.used)),
+        record { may = λ r part b room. search (rules, of_calls); does = λ r part k left b room post. search (rules, of_calls) },
+        room (length (each (row_at (view w)) 0 n.result)) a (omega (arith, header_end _ _ h, c.write_lines.ensures.used)),
+      ),
+    )
+
+pub write_lines-requires-2 : goal.write_lines-requires-2
+write_lines-requires-2 c κs within =
+    let w = c.args.from.now.net.now in
+    let n = c.nodes-n in
+    let long = image_long (view w) n.result _ n.ensures refl (few w) in
+    let h = c.put_header-arcs.ensures in
+    let y = wrote_then (wrote_then h c.write_lines.ensures) c.write_line.ensures in (
+      simp (in_lives, within.0, within.1.0) (search rules),
+      (
+        λ s m. record { may = λ r part b room. search (rules, of_calls); does = λ r part k left b room post. search (rules, of_calls) },
+        room (length (each (λ s. each (report_at (view w) s) 0 n.result) 0 n.result)) y
+            (omega (arith, header_end _ _ h, c.write_lines.ensures.used, c.write_line.ensures.used)),
       ),
     )
 
@@ -69,13 +69,13 @@ put_end-requires c =
     let n = c.nodes-n in
     let long = image_long (view w) n.result _ n.ensures refl (few w) in
     let h = c.put_header-arcs.ensures in
-    let r = wrote_then (wrote_then (wrote_then h c.write_each.ensures) c.write_each-2.ensures) c.write_each-3.ensures in
-    room (record_length 0) r (omega (arith, header_end _ _ h, c.write_each.ensures.used, c.write_each-2.ensures.used, c.write_each-3.ensures.used))
+    let r = wrote_then (wrote_then (wrote_then h c.write_lines.ensures) c.write_line.ensures) c.write_lines-2.ensures in
+    room (record_length 0) r (omega (arith, header_end _ _ h, c.write_lines.ensures.used, c.write_line.ensures.used, c.write_lines-2.ensures.used))
 
 pub returns : goal.returns
 returns c =
     let w = c.args.from.now.net.now in
     let n = c.nodes-n in
     let o = c.origin in
-    let r = wrote_then (wrote_then (wrote_then c.put_header-arcs.ensures c.write_each.ensures) c.write_each-2.ensures) c.write_each-3.ensures in
+    let r = wrote_then (wrote_then (wrote_then c.put_header-arcs.ensures c.write_lines.ensures) c.write_line.ensures) c.write_lines-2.ensures in
     wrote_as (image_parts (view w) n.result o.result n.ensures o.ensures (few w)) (wrote_then r c.put_end.ensures)

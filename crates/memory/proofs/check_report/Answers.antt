@@ -3,7 +3,7 @@
 use native.Mathlib.Omega.{arith}
 use Rattle.network.specs.Placing.{place_report_number}
 use Rattle.memory.specs.Answers.{read_cost, cost_means}
-use Rattle.memory.proofs.Placing.{answered_err}
+use Rattle.network.proofs.Answered.{answered_err}
 use Rattle.memory.proofs.check_report.Goals as goal
 
 pub returns-in_err-cost : goal.returns-in_err-cost

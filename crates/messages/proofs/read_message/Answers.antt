@@ -9,7 +9,7 @@ use Rattle.messages.proofs.Reading.{some_zero, exit_message, entry_wrong, entry_
 use Rattle.messages.proofs.read_message.Goals as goal
 
 pub returns-then-word-ne-HEADER_WORD-clause-number : goal.returns-then-word-ne-HEADER_WORD-clause-number
-returns-then-word-ne-HEADER_WORD-clause-number c = rw (header_wrong c.args.given.base _ c.args.part.now _ (λ e. c.if-word-ne-HEADER_WORD.true (c.word.ensures ∙ e)))
+returns-then-word-ne-HEADER_WORD-clause-number c = rw (header_wrong c.args.given.base _ c.args.part.now _ (λ i. omega (arith, c.type_inv.part i)) (λ e. c.if-word-ne-HEADER_WORD.true (c.word.ensures ∙ e)))
 
 pub loop-i-init : goal.loop-i-init
 unfolding message_metrics

@@ -11,13 +11,14 @@ use Rattle.network.proofs.Answered.{fault_some}
 use Rattle.response.specs.Reading.{Reading}
 use Rattle.response.proofs.Answering.{read_given}
 use Rattle.records.proofs.Each.{each_zero}
-use Rattle.messages.proofs.Reading.{some_zero, exit_number, metrics_size, messages_next, metrics_next, wrong_size, wrong_message, number_read, metrics_read}
+use Rattle.network.proofs.Answered.{answered_err}
+use Rattle.messages.proofs.Reading.{some_zero, metrics_size, messages_next, metrics_next, wrong_size, wrong_message, number_read, metrics_read}
 use Rattle.messages.proofs.read_messages.Goals as goal
 
 pub returns-in_err-given-clause-number : goal.returns-in_err-given-clause-number
 returns-in_err-given-clause-number c =
     let f = c.in_err-given.field-0.0 in
-    exit_number c.from_residual.result f c.from_residual.ensures.1 ∙
+    answered_err c.from_residual.result f c.from_residual.ensures.1 ∙
     sym (ap (λ (o : Reading). o.number) (read_given c.args.base c.args.n c.args.bytes.now _ c.in_err-given.ensures.number (fault_some f)))
 
 pub returns-then-bytes-messages_length-clause-number : goal.returns-then-bytes-messages_length-clause-number
@@ -38,7 +39,7 @@ pub returns-in_err-read_message-clause-number : goal.returns-in_err-read_message
 returns-in_err-read_message-clause-number c =
     let g = c.in_ok-given.ensures in
     let f = c.in_err-read_message.field-0.0 in
-    exit_number c.from_residual-in_err-read_message.result f c.from_residual-in_err-read_message.ensures.1 ∙
+    answered_err c.from_residual-in_err-read_message.result f c.from_residual-in_err-read_message.ensures.1 ∙
     wrong_message c.args.base c.args.n c.args.bytes.now g.given g.number c.messages_length.ensures c.if-bytes-messages_length.false c.loop-k.k (fault_number f)
     (omega (arith, c.message_count-k-end.ensures)) (fault_some f) c.in_err-read_message.ensures.number
 

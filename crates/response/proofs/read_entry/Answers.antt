@@ -1,27 +1,29 @@
 -- `response::read_entry` meets its contract: a field that differs is a fault, and where none does the metric decides.
 -- Assumes nothing.
 use native.Mathlib.Omega.{arith}
-use mathlib.Core.Path.{sym, ap, ◌∙◌}
-use Rattle.std.specs.Prelude.{Some, None}
-use Rattle.response.specs.Reading.{entry_metric}
-use Rattle.response.proofs.Fields.{metric_says, entry_wrong, entry_right, fields_by, family_same}
+use mathlib.Core.Path.{◌∙◌}
+use Rattle.std.proofs.lemmas.Bool.Decides.{nat_tests}
+use Rattle.response.specs.Reading.{metric_fault, entry_metric}
+use Rattle.response.proofs.Fields.{byte_some, byte_none, entry_words}
 use Rattle.response.proofs.read_entry.Goals as goal
 
 pub returns-then-word-ne-FAMILY_TAG : goal.returns-then-word-ne-FAMILY_TAG
-returns-then-word-ne-FAMILY_TAG c =
-    let a = c.args in
-    entry_wrong a.a a.part.now _ _ (λ f m. let h = family_same a.a a.part.now f in grind (arith, h, f.address, f.mask, f.next_hop))
+returns-then-word-ne-FAMILY_TAG c = rw (entry_words c.args.a c.args.part.now (λ i. omega (arith, c.type_inv.part i))) (grind (arith, nat_tests))
+
+pub returns-in_err-m : goal.returns-in_err-m
+unfolding metric_fault
+returns-in_err-m c =
+    let h = byte_none _ c.try_from.result c.try_from.ensures c.in_err-m.ensures.value in
+    c.from_residual.ensures ∙ rw (entry_words c.args.a c.args.part.now (λ i. omega (arith, c.type_inv.part i))) (grind (arith, nat_tests, h))
 
 pub returns-then-m-eq0 : goal.returns-then-m-eq0
-unfolding entry_metric
+unfolding metric_fault
 returns-then-m-eq0 c =
-    entry_wrong c.args.a c.args.part.now _ _ (λ f m. let h = metric_says _ m in grind (arith, h))
+    let h = byte_some _ c.try_from.result c.try_from.ensures c.in_ok-m.ensures.value in
+    rw (entry_words c.args.a c.args.part.now (λ i. omega (arith, c.type_inv.part i))) (grind (arith, nat_tests, h))
 
 pub returns : goal.returns
-unfolding entry_metric
+unfolding metric_fault entry_metric
 returns c =
-    let a = c.args in
-    let f =
-    fields_by a.a a.part.now (λ i. omega (arith, c.type_inv.part i)) (omega (arith, c.word.ensures)) (omega (arith, c.word-else-word-ne-FAMILY_TAG.ensures))
-    (omega (arith, c.word-else-word-a.ensures)) (omega (arith, c.word-else-word-ne-MASK.ensures)) in
-    ap Some c.word-m.ensures ∙ entry_right a.a a.part.now None (Some (entry_metric a.part.now)) f (omega (arith, c.word-m.ensures)) (omega (arith, c.word-m.ensures))
+    let h = byte_some _ c.try_from.result c.try_from.ensures c.in_ok-m.ensures.value in
+    rw (entry_words c.args.a c.args.part.now (λ i. omega (arith, c.type_inv.part i))) (grind (arith, nat_tests, h))

@@ -13,8 +13,8 @@ loop-s-init c =
     walk_begun (ap (λ (i : Nodes). i.left) c.into_iter-s-iterator.ensures.into_iter_gives ∙ c.nodes_of-s-items.ensures)
     (row_begun a.receiver.index a.word (by_words a.net.now))
 
-pub invariant_of-sender : goal.invariant_of-sender
-invariant_of-sender c =
+pub invariant_of-hear_arc : goal.invariant_of-hear_arc
+invariant_of-hear_arc c =
     let a = c.args in
     record {
       small = (walk_visits c.ranges.word.fits (λ k b e. row_passed _ _ a.receiver.index a.word k e) c.in-Some.s c.loop-s.invariant c.in-Some.ensures.steps).below;

@@ -10,9 +10,6 @@ use Rattle.routing.proofs.Hearing.{marks_bits, arcs_bits, rows_begun, rows_next,
 use Rattle.routing.proofs.hear_marks.Goals.{in-Some, in-None}
 use Rattle.routing.proofs.hear_marks.Goals as goal
 
-pub loop-r-init : goal.loop-r-init
-loop-r-init c = rows_begun _ (by_words c.args.net.now)
-
 pub loop-r-preserved : goal.loop-r-preserved
 loop-r-preserved c =
     let a = c.args in
@@ -24,6 +21,3 @@ loop-r-preserved c =
       | in-None v ↦ arcs_bits _ w l.net _ l.r _ (ap (option_map (λ words. words.now)) v.in-None.is) l.invariant (v.word-is ∙ v.arcs_of-word.ensures)
     ])
     l.invariant c.hear_row.ensures
-
-pub returns : goal.returns
-returns c = rows_done c.args.net.now _ _ c.loop-r.r (omega arith) c.loop-r.invariant
