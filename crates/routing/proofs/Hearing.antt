@@ -1,6 +1,6 @@
 -- Hearing arc by arc comes to the first half of a round.
 -- Assumes nothing.
-use mathlib.Core.Path.{◌≡◌, refl, sym, ap, ap₂, subst, ◌∙◌}
+use mathlib.Core.Path.{◌≡◌, refl, sym, ap, ap₂, ◌∙◌}
 use mathlib.Core.Bool.{Bool, true, false, cond, ◌&&◌, ◌||◌, and-true, and-false, or-false}
 use mathlib.Core.Logic.{◌⊎◌, inl, inr, ◌≢◌}
 use mathlib.Core.List.{List}
@@ -12,9 +12,9 @@ use lib.ListN.{length, get_or, set, length-set}
 use lib.Seq.{get_or-set_same, get_or-set_other, set-get_or}
 use borrow.Author.Tests.{lt-ltb, le-ltb, eq-eqb, ne_eqb}
 use Rattle.ancestors.specs.Ancestors.{has, own}
-use Rattle.ancestors.proofs.Cases.{bool_cases, le_or_lt, eq_or_ne, eqb_same, ltb_other, never}
+use Rattle.ancestors.proofs.Cases.{bool_cases, le_or_lt, eq_or_ne, eqb_same, ltb_other}
 use Rattle.ancestors.proofs.Laws.{put_some}
-use Rattle.network.specs.Network.{Frame, Row, none, root, via, Report, empty, told, Net, with_rows, with_reports}
+use Rattle.network.specs.Network.{Frame, none, root, via, Report, empty, told, Net, with_rows, with_reports}
 use Rattle.network.specs.Faults.{max_nodes, pair_fault_of}
 use Rattle.network.specs.Round.{Marks, report, hear, marked, every_arc}
 use Rattle.network.specs.Arcs.{arcs_to}
@@ -25,7 +25,7 @@ use Rattle.network.proofs.Arcs.{arcs_exact}
 use Rattle.network.proofs.Effects.{same_net, same_reports}
 use Rattle.network.proofs.FaultLaws.{pair_says}
 use Rattle.memory.proofs.Laws.{few, read_origin}
-use Rattle.memory.proofs.Store.{Has, arc_is, arc_beyond, present_in, present_out, present_pair, word_in, read_cost_lem, read_held, cost_none, held_none, store_origin}
+use Rattle.memory.proofs.Store.{Has, arc_is, present_in, present_out, present_pair, word_in, read_cost_lem, read_held, cost_none, held_none, store_origin}
 
 -- ---- laws of hearing
 

@@ -1,10 +1,10 @@
 -- Marks tested and heard a word at a time are the marks of the definition.
 -- Assumes nothing.
 use mathlib.Core.Path.{◌≡◌, refl, sym, ap, ap₂, ◌∙◌}
-use mathlib.Core.Bool.{Bool, true, false, not, ◌&&◌, ◌||◌}
+use mathlib.Core.Bool.{true, false, not, ◌&&◌, ◌||◌}
 use mathlib.Core.Logic.{◌⊎◌, inl, inr}
 use mathlib.Core.List.{List}
-use Prim.Native.Nat.{ℕ, ◌+◌, ◌^◌, ◌<◌, ◌≤◌}
+use Prim.Native.Nat.{ℕ, ◌+◌, ◌^◌, ◌<◌}
 use native.Mathlib.Numerals.{add-one}
 use native.Mathlib.Omega.{arith}
 use lib.Bits.{bit_and}
@@ -19,12 +19,12 @@ use Rattle.ancestors.proofs.Cases.{bool_cases, never}
 use Rattle.network.specs.Faults.{pair_fault_of}
 use Rattle.network.specs.Round.{marked, some, stray_mark, idle_mark, every_arc}
 use Rattle.network.specs.Network.{Net}
-use Rattle.network.specs.Arcs.{arcs_to, senders}
+use Rattle.network.specs.Arcs.{senders}
 use Rattle.network.proofs.Arcs.{arcs_exact, outside_some, stray_bit, some_cost, senders_fit}
 use Rattle.network.proofs.Marking.{some_ext, some_none, marked_fails}
 use Rattle.memory.specs.Layout.{word_count, look, view, arc_bits}
 use Rattle.memory.proofs.ArcLaws.{arcs_word}
-use Rattle.memory.proofs.Store.{present_out, arc_is, arc_beyond}
+use Rattle.memory.proofs.Store.{present_out, arc_is}
 use Rattle.routing.proofs.Renewing.{part, part_at}
 use Rattle.routing.specs.Inner.{outside, stray_rows, idle_rows, outside_rows}
 

@@ -15,7 +15,7 @@ use Rattle.ancestors.proofs.Cases.{eq_or_ne, eqb_same, ltb_other}
 use Rattle.ancestors.proofs.Sets.{has_cut_same, has_cut_other}
 use Rattle.ancestors.proofs.Laws.{put_some}
 use Rattle.network.specs.Faults.{pair_fault_of}
-use Rattle.network.specs.Network.{Row, via, Report, empty, Net, set_at, with_row}
+use Rattle.network.specs.Network.{Row, empty, Net, set_at, with_row}
 use Rattle.network.proofs.FaultLaws.{pair_same, pair_free}
 use Rattle.network.specs.Round.{choice, renew_to, renew}
 use Rattle.network.specs.Words.{report_of, cost_of, reports, costs_of, ChoiceAnswer, chosen, words_fault, choose_of, row_means, choice_means}

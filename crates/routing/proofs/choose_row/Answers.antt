@@ -7,4 +7,4 @@ use Rattle.routing.proofs.choose_row.Goals as goal
 pub returns : goal.returns
 returns c =
     chosen_row c.args.net.now c.nodes-n.result c.args.receiver c.left_out-arcs.result c.choose-chosen.result _ (search rules) c.nodes-n.ensures c.requires.node
-    c.left_out-arcs.ensures c.choose-chosen.ensures c.unwrap_or.ensures
+    (search rules) (search rules) c.unwrap_or.ensures

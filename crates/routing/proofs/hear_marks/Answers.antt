@@ -5,8 +5,7 @@ use mathlib.Core.Path.{ap, ◌∙◌}
 use Rattle.std.specs.Prelude.{option_map}
 use Rattle.memory.specs.Layout.{view}
 use Rattle.memory.proofs.Laws.{few}
-use Rattle.routing.specs.Inner.{by_words}
-use Rattle.routing.proofs.Hearing.{marks_bits, arcs_bits, rows_begun, rows_next, rows_done}
+use Rattle.routing.proofs.Hearing.{marks_bits, arcs_bits, rows_next}
 use Rattle.routing.proofs.hear_marks.Goals.{in-Some, in-None}
 use Rattle.routing.proofs.hear_marks.Goals as goal
 
