@@ -191,10 +191,7 @@ const READ_WORDS: usize = network::NODES + 2;
 fn metric_at(metrics: &[u8], y: usize) -> u64
     ensures { result ≡ get_or metrics.now y 0 }
 {
-    if metrics.len() <= y {
-        return 0;
-    }
-    u64::from(metrics[y])
+    metrics.get(y).map_or(0, |metric| u64::from(*metric))
 }
 
 // Number 0, how many metrics there are, and the metrics in the places of 32 nodes.

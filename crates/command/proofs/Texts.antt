@@ -3,16 +3,14 @@
 use mathlib.Core.Path.{◌≡◌, sym, ap, ap₂, ◌∙◌}
 use mathlib.Core.Bool.{true, false}
 use mathlib.Core.List.{List, []}
-use mathlib.Core.Logic.{◌⊎◌, inl, inr, ◌≢◌}
+use mathlib.Core.Logic.{◌⊎◌, inl, inr}
 use Prim.Native.Nat.{ℕ, ◌+◌, ◌<◌, ◌≤◌}
 use native.Mathlib.Omega.{arith}
-use lib.ListN.{length, get_or, take}
+use lib.ListN.{length, take}
 use lib.Seq.{length-take-le, take_all}
 use borrow.Author.Tests.{lt-ltb, le-ltb, eq-eqb, ne_eqb}
 use Rattle.ancestors.proofs.Cases.{bool_cases, le_or_lt}
-use Rattle.network.specs.Network.{Net}
 use Rattle.network.proofs.Limits.{within_size}
-use Rattle.memory.specs.Layout.{view}
 use Rattle.records.specs.Numbers.{Bytes}
 use Rattle.records.specs.Running.{run_of}
 use Rattle.settling.proofs.RunCalls.{run_within}
@@ -27,7 +25,7 @@ use Rattle.response.specs.Reading.{read_of}
 use Rattle.response.proofs.Answering.{count_free}
 use Rattle.response.proofs.Callers.{read_long}
 use Rattle.text.specs.Text.{max_input, stop_line, too_long}
-use Rattle.command.specs.Saying.{Saying, on_output, on_error, refused_line, metric_line, node_lines, run_text, write_text_of, metrics_text, read_text, refusal_text}
+use Rattle.command.specs.Saying.{Saying, on_output, on_error, refused_line, node_lines, run_text, write_text_of, metrics_text, read_text, refusal_text}
 use Rattle.command.specs.Enough.{InputEnough}
 use Rattle.command.specs.declared.Refusal.{Refusal}
 use Rattle.command.specs.declared.Refusal.TheVariants.{Refused, Stopped}

@@ -2,13 +2,12 @@
 -- Assumes nothing.
 use mathlib.Core.Path.{◌≡◌, refl, sym, ap, ◌∙◌}
 use mathlib.Core.List.{List, ◌++◌}
-use Prim.Native.Nat.{ℕ, zero, suc, ◌+◌, ◌*◌, ◌-◌, ◌<◌, ◌≤◌}
-use native.Mathlib.Nat.{mul-le-mul}
+use Prim.Native.Nat.{ℕ, zero, suc, ◌+◌, ◌-◌, ◌<◌, ◌≤◌}
 use native.Mathlib.Omega.{arith}
 use lib.ListN.{length, take, drop, length-append}
 use Rattle.network.specs.Faults.{max_nodes, node_fault, pair_fault_of}
 use Rattle.network.specs.Network.{Net}
-use Rattle.records.specs.Image.{each, arc_bytes, row_bytes, report_bytes, max_pairs, full_image, max_image}
+use Rattle.records.specs.Image.{each, arc_bytes, row_bytes, report_bytes, full_image, max_image}
 use Rattle.records.specs.Records.{body_length, record_length, arc_record_of, row_record_of, report_record_of}
 use Rattle.records.proofs.Each.{each_split, each_zero, each_next}
 use Rattle.records.proofs.Sizes.{arc_long, row_long, report_long, arc_most, row_most, report_most, kept_most}
@@ -19,10 +18,6 @@ use Rattle.filling.proofs.Parts.{wrote_as, room, wrote_then}
 use Rattle.image.proofs.Sums.{sum_zero, sum_next}
 
 -- the lengths of records
-pub sizes : (record_length 0 ≡ 1) × (record_length 1 ≡ 3) × (record_length 2 ≡ 5) × (record_length 3 ≡ 11) × (record_length 4 ≡ 11)
-unfolding body_length
-sizes = (refl, refl, refl, refl, refl)
-
 pub arc_size : (s r c : ℕ) → length (arc_record_of s r c) ≡ record_length 2
 unfolding body_length
 arc_size s r c = arc_long s r c
@@ -48,12 +43,6 @@ module _ (x : Net) where
   pub report_at_most : (s r : ℕ) → length (report_at x s r) ≤ record_length 4
   unfolding report_at
   report_at_most s r = kept_most (record_length 4) (pair_fault_of x.nodes s r) (report_bytes s r (x.held s r)) (report_most s r (x.held s r))
-
--- the ordered pairs of at most 32 nodes
-pub pairs_few : (n : ℕ) → n ≤ max_nodes → n * (n - 1) ≤ max_pairs
-pairs_few n h =
-    let others : n - 1 ≤ max_nodes - 1 = omega arith in
-    mul-le-mul h others
 
 -- the most bytes of an image of 32 nodes are those of the largest image
 pub most_largest : most_bytes_of max_nodes ≡ max_image

@@ -20,14 +20,14 @@ use Rattle.network.proofs.FaultLaws.{pair_says}
 use Rattle.network.proofs.Marking.{every_arc_lem}
 use Rattle.memory.specs.Layout.{view, cost_word_of, held_label_word_of, held_list_word_of}
 use Rattle.memory.specs.Answers.{read_row, row_means}
-use Rattle.std.specs.Prelude.{Option, Some, None, Result, Ok, Err}
+use Rattle.std.specs.Prelude.{Option, Some, None, Ok, Err, Result}
 use Rattle.network.specs.declared.Fault.{Fault}
 use Rattle.network.specs.declared.Route.{Route}
 use Rattle.memory.specs.declared.RowRead.{RowRead}
 use Rattle.memory.specs.declared.RowRead.TheVariants as R
 use Rattle.memory.proofs.Laws.{few, said_refused, said_none, said_origin, said_relay}
 use Rattle.memory.proofs.ArcLaws.{arc_pair, arc_cost, arc_held, no_cost, no_report}
-use Rattle.records.specs.Records.{record_length, arc_record_of, row_record_of, report_record_of}
+use Rattle.records.specs.Records.{record_length, arc_record_of, report_record_of}
 use Rattle.records.specs.Image.{arc_bytes, row_bytes, report_bytes}
 use Rattle.image.specs.Items.{route_bytes}
 use Rattle.image.specs.Lines.{arc_at, row_at, report_at}
@@ -58,14 +58,19 @@ module _ (x : Net) (y : ℕ) where
   row_read (R.Origin l s) said = let a = said_origin x y (Ok (R.Origin l s)) said refl in rw (a.0, a.1)
   row_read (R.Relay v s) said = let a = said_relay x y (Ok (R.Relay v s)) said refl in rw (a.0, a.1)
 
+  -- no row is written but of a relay with a route
+  pub row_none : (r : Result RowRead Fault) → row_means r ≡ read_row x y → ((v : Route) (s : ℕ) → r ≡ Ok (R.Relay v s) → ⊥) → row_at x y ≡ []
+  unfolding route_bytes
+  row_none (Err f) said n = row_refused f said
+  row_none (Ok R.NoRoute) said n = row_read R.NoRoute said
+  row_none (Ok (R.Origin l s)) said n = row_read (R.Origin l s) said
+  row_none (Ok (R.Relay v s)) said n = absurd (n v s refl)
+
 -- ---- the words of arcs as they are read
 
 module _ (xs words : List ℕ) (r : ℕ) (e : words ≡ arc_words_of (view xs)) (h : r < (view xs).nodes) where
   pub word_of : get_or words r 0 ≡ arcs_to (view xs) r
   word_of = ap (λ (l : List ℕ). get_or l r 0) e ∙ arc_words_at (view xs) r (omega (arith, few xs))
-
-  pub bit_of : (s : ℕ) {b t : Bool} → b ≡ has (get_or words r 0) s → b ≡ t → has (arcs_to (view xs) r) s ≡ t
-  bit_of s p q = sym (p ∙ ap (λ l. has l s) word_of) ∙ q
 
 -- ---- an arc and a report, by the bit of s in the word of r's arcs
 

@@ -1,6 +1,6 @@
 -- The bytes of an image by receiver, counted in words, and at most how many they are.
 -- Assumes nothing.
-use mathlib.Core.Path.{◌≡◌, refl, sym, ap₂, ◌∙◌}
+use mathlib.Core.Path.{◌≡◌, refl, ap₂, ◌∙◌}
 use mathlib.Core.List.{List}
 use Prim.Native.Nat.{ℕ, ◌+◌, ◌*◌, ◌<◌, ◌≤◌}
 use native.Mathlib.Omega.{arith}
@@ -34,12 +34,12 @@ module _ (xs : List ℕ) (arcs r : ℕ) where
   held_none s e h = let here : one (holds xs arcs r s) ≡ 0 = rw e refl in omega (arith, h, here, count_next (holds xs arcs r) s)
 
   -- or one, by what its report's list is
-  module _ (s : ℕ) {total k list : ℕ} {arc : Bool} (bit : arc ≡ has arcs s) (word : list ≡ held_list_word_of xs s r) (counted : k ≡ bool_byte (arc && not (eqb list 0)))
+  module _ (s : ℕ) {total k : ℕ} {arc hit : Bool} (bit : arc ≡ has arcs s) (word : hit ≡ not (eqb (held_list_word_of xs s r) 0)) (counted : k ≡ bool_byte (arc && hit))
       (sofar : total ≡ count (holds xs arcs r) s) where
     pub held_next : total + k ≡ count (holds xs arcs r) (s + 1)
     unfolding holds
     held_next =
-        let here : k ≡ one (holds xs arcs r s) = rw (← bit, ← word) (counted ∙ one_byte (arc && not (eqb list 0))) in
+        let here : k ≡ one (holds xs arcs r s) = rw (← bit, ← word) (counted ∙ one_byte (arc && hit)) in
         omega (arith, sofar, here, count_next (holds xs arcs r) s)
 
     pub held_most : s < max_nodes → total + k ≤ max_nodes

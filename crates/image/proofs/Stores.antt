@@ -1,23 +1,14 @@
 -- Bytes stored one by one at the front of a part, in the order of the record writers.
 -- Assumes nothing.
 use mathlib.Core.Path.{◌≡◌, refl}
-use mathlib.Core.List.{List, [], ◌∷◌}
-use Prim.Native.Nat.{ℕ, suc, ◌+◌, ◌%◌, ◌≤◌}
+use mathlib.Core.List.{List, [], ◌∷◌, ◌++◌}
+use Prim.Native.Nat.{ℕ, ◌+◌, ◌/◌, ◌%◌, ◌≤◌}
 use native.Mathlib.Omega.{arith}
-use lib.ListN.{length, set}
-use lib.Seq.{sets}
+use lib.ListN.{length, set, take, drop}
 use Rattle.records.specs.Numbers.{be8, be16, be32}
-use Rattle.records.specs.Records.{body_length, record_length, row_record_of, report_record_of}
+use Rattle.records.specs.Records.{body_length, record_length, arc_record_of, row_record_of, report_record_of}
 use Rattle.filling.specs.Filling.{Wrote}
 use Rattle.filling.proofs.Fronts.{Front, none, more, front}
-
--- four numbers stored from a place on
-pub four : (e : List ℕ) (at a b c d : ℕ) → set (set (set (set e at a) (at + 1) b) (at + 2) c) (at + 3) d ≡ sets e at (a ∷ b ∷ c ∷ d ∷ [])
-four e at a b c d =
-    let p : at + 1 ≡ suc at = omega arith in
-    let q : at + 2 ≡ suc (suc at) = omega arith in
-    let r : at + 3 ≡ suc (suc (suc at)) = omega arith in
-    rw (p, q, r)
 
 -- three bytes
 module _ (a b c : ℕ) where
@@ -27,29 +18,47 @@ module _ (a b c : ℕ) where
   pub stored_three : (e : List ℕ) → 3 ≤ length e → Wrote (a ∷ b ∷ c ∷ []) e (set (set (set e 0 a) 1 b) 2 c) 3
   stored_three e h = three (front 3 e h)
 
--- five bytes, the last two first
-module _ (a b c d f : ℕ) where
-  five : {e : List ℕ} → Front 5 e → Wrote (a ∷ b ∷ c ∷ d ∷ f ∷ []) e (set (set (set (set (set e 3 d) 4 f) 0 a) 1 b) 2 c) 5
+-- a number of four bytes stored from a place on
+abbrev put : ℕ → ℕ → List ℕ → List ℕ
+put at x e = take at e ++ (be32 x ++ drop (at + 4) e)
+
+-- one of two bytes at the end of an arc's record
+abbrev put16 : ℕ → List ℕ → List ℕ
+put16 x e = take 3 e ++ (be16 x ++ drop 2 (drop 3 e))
+
+-- in two bytes by its low sixteen bits
+pub low_bytes : (x : ℕ) → (x % 65536) / 256 % 256 ∷ (x % 65536) % 256 ∷ [] ≡ be16 x
+unfolding be16 be8
+low_bytes x =
+    let high : (x % 65536) / 256 % 256 ≡ x / 256 % 256 = omega arith in
+    let low : (x % 65536) % 256 ≡ x % 256 = omega arith in
+    rw (high, low)
+
+-- five bytes, of which the last two are a number
+module _ (a b c : ℕ) where
+  five : {e : List ℕ} → Front 5 e → Wrote (arc_record_of a b c) e (put16 c (set (set (set e 0 2) 1 (a % 256)) 2 (b % 256))) 5
+  unfolding arc_record_of be16 be8
   five (more (more (more (more (more none))))) = record { used = refl; left = refl }
 
-  pub stored_five : (e : List ℕ) → 5 ≤ length e → Wrote (a ∷ b ∷ c ∷ d ∷ f ∷ []) e (set (set (set (set (set e 3 d) 4 f) 0 a) 1 b) 2 c) 5
-  stored_five e h = five (front 5 e h)
+  pub stored_arc : (e : List ℕ) → record_length 2 ≤ length e → Wrote (arc_record_of a b c) e (put16 c (set (set (set e 0 2) 1 (a % 256)) 2 (b % 256))) 5
+  unfolding body_length
+  stored_arc e h = five (front 5 e h)
 
--- eleven bytes, of which two numbers of four first
+-- eleven bytes, of which eight are numbers of four
 module _ (a b c d : ℕ) where
-  eleven_row : {e : List ℕ} → Front 11 e → Wrote (row_record_of a b c d) e (set (set (set (sets (sets e 2 (be32 b)) 7 (be32 d)) 0 3) 1 (a % 256)) 6 (c % 256)) 11
+  row : {e : List ℕ} → Front 11 e → Wrote (row_record_of a b c d) e (put 7 d (set (put 2 b (set (set e 0 3) 1 (a % 256))) 6 (c % 256))) 11
   unfolding row_record_of be32 be16 be8
-  eleven_row (more (more (more (more (more (more (more (more (more (more (more none))))))))))) = record { used = refl; left = refl }
+  row (more (more (more (more (more (more (more (more (more (more (more none))))))))))) = record { used = refl; left = refl }
 
-  eleven_report : {e : List ℕ} → Front 11 e → Wrote (report_record_of a b c d) e (set (set (set (sets (sets e 7 (be32 d)) 3 (be32 c)) 0 4) 1 (a % 256)) 2 (b % 256)) 11
+  report : {e : List ℕ} → Front 11 e → Wrote (report_record_of a b c d) e (put 7 d (put 3 c (set (set (set e 0 4) 1 (a % 256)) 2 (b % 256)))) 11
   unfolding report_record_of be32 be16 be8
-  eleven_report (more (more (more (more (more (more (more (more (more (more (more none))))))))))) = record { used = refl; left = refl }
+  report (more (more (more (more (more (more (more (more (more (more (more none))))))))))) = record { used = refl; left = refl }
 
-  module _ (e : List ℕ) (room : record_length 3 ≤ length e) {f g : List ℕ} where
-    pub stored_row : f ≡ sets e 2 (be32 b) → g ≡ sets f 7 (be32 d) → Wrote (row_record_of a b c d) e (set (set (set g 0 3) 1 (a % 256)) 6 (c % 256)) 11
+  module _ (e : List ℕ) where
+    pub stored_row : record_length 3 ≤ length e → Wrote (row_record_of a b c d) e (put 7 d (set (put 2 b (set (set e 0 3) 1 (a % 256))) 6 (c % 256))) 11
     unfolding body_length
-    stored_row p q = rw (q, p) (eleven_row (front 11 e room))
+    stored_row h = row (front 11 e h)
 
-    pub stored_report : {k : ℕ} → k ≡ c → f ≡ sets e 7 (be32 d) → g ≡ sets f 3 (be32 k) → Wrote (report_record_of a b c d) e (set (set (set g 0 4) 1 (a % 256)) 2 (b % 256)) 11
+    pub stored_report : record_length 4 ≤ length e → Wrote (report_record_of a b c d) e (put 7 d (put 3 c (set (set (set e 0 4) 1 (a % 256)) 2 (b % 256)))) 11
     unfolding body_length
-    stored_report same p q = rw (q, same, p) (eleven_report (front 11 e room))
+    stored_report h = report (front 11 e h)

@@ -1,4 +1,4 @@
--- The records of an image by node and by pair of nodes, and in lines: of one sender to all receivers, or of all nodes.
+-- The records of an image by node and by pair of nodes.
 -- Assumes nothing.
 use Rattle.std.specs.Prelude.{cond, List, [], ℕ}
 use Rattle.network.specs.Faults.{node_fault, pair_fault_of}

@@ -5,13 +5,12 @@
 // arc's cost and report are then read without a look at n. No public function has a precondition.
 #![tactic(auto, unfolding(records::specs::Records::body_length))]
 
-ghost use Rattle.std.specs.Prelude.{◌≡◌, ◌&&◌, ◌+◌, ◌<◌, ◌≤◌, ℕ, List, leb, length};
-ghost use Rattle.std.proofs.lemmas.List.Edits.{sets};
-ghost use Rattle.ancestors.specs.Ancestors.{one, has, count};
+ghost use Rattle.std.specs.Prelude.{◌≡◌, not, eqb, ◌+◌, ◌<◌, ◌≤◌, ◌++◌, ℕ, List, leb, length, take, drop};
+ghost use Rattle.ancestors.specs.Ancestors.{has, count};
 ghost use Rattle.network.specs.Faults.{max_nodes};
 ghost use Rattle.network.specs.Writing.{Writes};
 ghost use Rattle.network.specs.Arcs.{arcs_to, arc_words_of};
-ghost use Rattle.memory.specs.Layout.{view, held_label_word_of};
+ghost use Rattle.memory.specs.Layout.{view, held_list_word_of};
 ghost use Rattle.records.specs.Numbers.{be32};
 ghost use Rattle.records.specs.Records.{record_length, end_record, header_record_of, arc_record_of, row_record_of, report_record_of};
 ghost use Rattle.records.specs.Image.{each, image, image_of};
@@ -21,7 +20,7 @@ ghost use Rattle.image.specs.Lines.{arc_at, row_at, report_at};
 ghost use Rattle.image.specs.Measured.{holds, receiver_bytes, most_bytes_of};
 
 use memory::{Network, RowRead};
-use network::{Fault, NODES, Pair, Route};
+use network::{Fault, HeldReport, NODES, Pair, Route};
 
 // The bytes of a record of each kind: its kind byte and its body.
 const END_LENGTH: usize = 1;
@@ -59,6 +58,8 @@ fn put_end(out: &mut [u8]) -> usize
     END_LENGTH
 }
 
+// A cast to a byte is of a remainder below 256.
+
 // The first record of an image.
 fn put_header(out: &mut [u8], n: u32, origin: u32) -> usize
     requires { record_length 1 ≤ length out.old }
@@ -70,31 +71,24 @@ fn put_header(out: &mut [u8], n: u32, origin: u32) -> usize
     HEADER_LENGTH
 }
 
-// Bytes are cut off by `%` and a cast, and stored one by one: the compiler joins the bytes of a number into one store where no other byte is stored right before them. So the next writers begin with a number, and
-// before the second one there is a test, which always passes, or a word of the network is read.
-
 // The record of an arc.
 fn put_arc(out: &mut [u8], pair: Pair, cost: u32) -> usize
     requires { record_length 2 ≤ length out.old }
     ensures { Wrote (arc_record_of pair.sender pair.receiver cost) out.old out.new result }
 {
-    out[3] = (cost / 256 % 256) as u8;
-    out[4] = (cost % 256) as u8;
     out[0] = ARC;
     out[1] = (pair.sender % 256) as u8;
     out[2] = (pair.receiver % 256) as u8;
+    out[3..5].copy_from_slice(&((cost % 65536) as u16).to_be_bytes());
     ARC_LENGTH
 }
 
 // A number in four bytes from a place on.
 fn put32(out: &mut [u8], at: usize, x: u32)
     requires { at + 4 ≤ length out.old }
-    ensures { out.new ≡ sets out.old at (be32 x) }
+    ensures { out.new ≡ take at out.old ++ (be32 x ++ drop (at + 4) out.old) }
 {
-    out[at] = (x / 65536 / 256 % 256) as u8;
-    out[at + 1] = (x / 65536 % 256) as u8;
-    out[at + 2] = (x / 256 % 256) as u8;
-    out[at + 3] = (x % 256) as u8;
+    out[at..at + 4].copy_from_slice(&x.to_be_bytes());
 }
 
 // The record of a row.
@@ -102,28 +96,24 @@ fn put_row(out: &mut [u8], node: u32, route: Route) -> usize
     requires { record_length 3 ≤ length out.old }
     ensures { Wrote (row_record_of node route.label route.predecessor route.list) out.old out.new result }
 {
-    put32(out, 2, route.label);
-    if out.len() < ROW_LENGTH {
-        return ROW_LENGTH;
-    }
-    put32(out, 7, route.list);
     out[0] = ROW;
     out[1] = (node % 256) as u8;
+    put32(out, 2, route.label);
     out[6] = (route.predecessor % 256) as u8;
+    put32(out, 7, route.list);
     ROW_LENGTH
 }
 
-// The record of a report, whose label is read between its list and the rest.
-fn put_report(out: &mut [u8], net: &Network, pair: Pair, list: u32) -> usize
+// The record of a report.
+fn put_report(out: &mut [u8], pair: Pair, report: HeldReport) -> usize
     requires { record_length 4 ≤ length out.old }
-    ensures { Wrote (report_record_of pair.sender pair.receiver (held_label_word_of net.now pair.sender pair.receiver) list) out.old out.new result }
+    ensures { Wrote (report_record_of pair.sender pair.receiver report.label report.list) out.old out.new result }
 {
-    put32(out, 7, list);
-    let label = memory::held_label_word(net, pair);
-    put32(out, 3, label);
     out[0] = REPORT;
     out[1] = (pair.sender % 256) as u8;
     out[2] = (pair.receiver % 256) as u8;
+    put32(out, 3, report.label);
+    put32(out, 7, report.list);
     REPORT_LENGTH
 }
 
@@ -136,6 +126,8 @@ struct Source<'a> {
     arcs: &'a [u32; NODES],
     ghost words: { arcs.now ≡ arc_words_of (view net.now) },
 }
+
+// The bounds of a pair stand in three contracts: a pair in range would be a struct that names its network and is taken apart at each call, no plainer.
 
 // Whether the pair has an arc.
 fn has_arc(from: &Source, pair: Pair) -> bool
@@ -158,7 +150,7 @@ fn relay_route(net: &Network, node: u32) -> Option<Route>
     }
 }
 
-// ---- a record where the network has one, at the front of a part: answers the bytes used, and none where it has none
+// ---- a record where the network has one, at the front of a part: answers the bytes used, and none where it has none, so that no 0 is added to a place
 
 fn write_arc(from: &Source, pair: Pair, out: &mut [u8]) -> Option<usize>
     requires sender_bound { pair.sender < (view from.now.net.now).nodes }
@@ -195,12 +187,17 @@ fn write_report(from: &Source, pair: Pair, out: &mut [u8]) -> Option<usize>
     if list == 0 {
         return None;
     }
-    Some(put_report(out, from.net, pair, list))
+    let report = HeldReport {
+        label: memory::held_label_word(from.net, pair),
+        list,
+    };
+    Some(put_report(out, pair, report))
 }
 
 // ---- records, one after another
 
-// Those of a sender to the receivers below n: each is written by a writer that is lent the part not yet filled.
+// Those of a sender to the receivers below n: each is written by a writer that is lent the part not yet filled. A writer is handed both nodes: where its
+// closure holds the sender, the compiler doesn't see that it is below 32, and writing takes up to twice as long.
 fn write_line<F: Fn(Pair, &mut [u8]) -> Option<usize>>(
     sender: u32,
     n: u32,
@@ -214,14 +211,8 @@ fn write_line<F: Fn(Pair, &mut [u8]) -> Option<usize>>(
 {
     let mut at: usize = 0;
     for receiver in 0..n {
-        if let Some(k) = write(
-            Pair {
-                sender: sender,
-                receiver: receiver,
-            },
-            &mut out[at..],
-        ) {
-            at = at + k;
+        if let Some(k) = write(Pair { sender, receiver }, &mut out[at..]) {
+            at += k;
         }
     }
     at
@@ -236,7 +227,7 @@ fn write_lines<F: Fn(Pair, &mut [u8]) -> Option<usize>>(n: u32, out: &mut [u8], 
 {
     let mut at: usize = 0;
     for sender in 0..n {
-        at = at + write_line(sender, n, &mut out[at..], write);
+        at += write_line(sender, n, &mut out[at..], write);
     }
     at
 }
@@ -272,22 +263,23 @@ fn write_all(from: &Source, out: &mut [u8]) -> usize
 
 // ---- lengths; std has no `From<u32>` for `usize`
 
-// How many reports receiver r holds, over these arcs, from arc to arc.
+// Whether the receiver holds a report of the sender, where there is an arc.
+fn holds_report(net: &Network, sender: u32, receiver: u32) -> bool
+    ensures { result ≡ not (eqb (held_list_word_of net.now sender receiver) 0) }
+{
+    memory::held_list_word(net, Pair { sender, receiver }) != 0
+}
+
+// Network, word of arcs and receiver stay three parameters: a struct would be built for each receiver and taken apart in each count, no plainer.
+
+// How many reports receiver r holds, over these arcs, from arc to arc. Alone it takes 4 times as long on a full network, and the next one alone twice as
+// long on one with few arcs, so that both stay.
 fn held_few(net: &Network, arcs: u32, r: u32) -> u32
     ensures { result ≡ count (holds net.now arcs r) max_nodes }
 {
     let mut total: u32 = 0;
     for s in ancestors::nodes_of(arcs) {
-        total = total
-            + u32::from(
-                memory::held_list_word(
-                    net,
-                    Pair {
-                        sender: s,
-                        receiver: r,
-                    },
-                ) != 0,
-            );
+        total += u32::from(holds_report(net, s, r));
     }
     total
 }
@@ -299,17 +291,7 @@ fn held_all(net: &Network, arcs: u32, r: u32) -> u32
 {
     let mut total: u32 = 0;
     for s in 0u32..network::MAX_NODES {
-        total = total
-            + u32::from(
-                ancestors::listed(arcs, s)
-                    & (memory::held_list_word(
-                        net,
-                        Pair {
-                            sender: s,
-                            receiver: r,
-                        },
-                    ) != 0),
-            );
+        total += u32::from(ancestors::listed(arcs, s) & holds_report(net, s, r));
     }
     total
 }
@@ -350,7 +332,7 @@ fn counted_length(from: &Source) -> usize
 {
     let mut total = ENDS_LENGTH;
     for r in 0..memory::nodes(from.net) {
-        total = total + receiver_length(from.net, from.arcs[r as usize], r);
+        total += receiver_length(from.net, from.arcs[r as usize], r);
     }
     total
 }
@@ -387,10 +369,7 @@ pub fn image_length(net: &Network) -> usize
 {
     let mut arcs = [0u32; NODES];
     memory::arc_words(net, &mut arcs);
-    counted_length(&Source {
-        net: net,
-        arcs: &arcs,
-    })
+    counted_length(&Source { net, arcs: &arcs })
 }
 
 // Writes a network's image and answers its length. Refused as Room where the output is shorter than the image, and then nothing is written.
@@ -399,10 +378,7 @@ pub fn write_image(net: &Network, out: &mut [u8]) -> Result<usize, Fault>
 {
     let mut arcs = [0u32; NODES];
     memory::arc_words(net, &mut arcs);
-    let from = Source {
-        net: net,
-        arcs: &arcs,
-    };
+    let from = Source { net, arcs: &arcs };
     if !fits(&from, out.len()) {
         return Err(Fault::Room);
     }

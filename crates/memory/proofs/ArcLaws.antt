@@ -8,7 +8,7 @@ use mathlib.Core.List.{List}
 use Prim.Native.Nat.{ℕ, ◌+◌, ◌*◌, ◌<◌, ◌≤◌}
 use native.Mathlib.Omega.{arith}
 use lib.Bits.{bit_and, and_le_r}
-use Rattle.ancestors.specs.Ancestors.{has}
+use Rattle.ancestors.specs.Ancestors.{has, those}
 use Rattle.ancestors.proofs.Sets.{has_and, those_has, those_ext}
 use Rattle.ancestors.proofs.Cases.{le_or_lt}
 use Rattle.ancestors.proofs.Laws.{has_beyond}
@@ -62,6 +62,11 @@ module _ (xs : List ℕ) (s r : ℕ) where
 
     pub no_report : (view xs).held s r ≡ empty
     no_report = held_none xs s r (sym arc_bit ∙ e)
+
+-- a receiver that is no node has no arcs
+pub arcs_none : (xs : List ℕ) (r : ℕ) → (view xs).nodes ≤ r → arcs_to (view xs) r ≡ 0
+unfolding arcs_to those every_arc
+arcs_none xs r h = those_ext (λ s. every_arc (view xs) s r) (λ s. false) max_nodes (λ s _. sym (arc_is xs s r) ∙ arc_beyond xs s r (inr h))
 
 -- ---- the stored word
 

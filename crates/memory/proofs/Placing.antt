@@ -1,6 +1,6 @@
 -- Rows and reports placed: a call is refused, or what is placed has the form that its words give.
 -- Assumes nothing.
-use mathlib.Core.Path.{◌≡◌, sym, ap, subst, ◌∙◌}
+use mathlib.Core.Path.{◌≡◌, sym, subst, ◌∙◌}
 use mathlib.Core.Bool.{true}
 use mathlib.Core.Logic.{◌≢◌}
 use mathlib.Core.List.{List}
@@ -19,7 +19,7 @@ use Rattle.network.proofs.Accepting.{place_row_accepted, place_report_accepted}
 use Rattle.network.proofs.FaultLaws.{node_bad, node_says, pair_says, row_says, report_says}
 use Rattle.memory.specs.Layout.{word_count, view, row_of, held_labels, held_lists, row_labels, row_predecessors, row_lists}
 use Rattle.memory.specs.Answers.{Leaves}
-use Rattle.std.specs.Prelude.{Result, Ok, Err}
+use Rattle.std.specs.Prelude.{Result}
 use Rattle.std.specs.Result.{IsErrAnd}
 use Rattle.network.specs.Answered.{fault_number, answered}
 use Rattle.network.specs.declared.Fault.{Fault}

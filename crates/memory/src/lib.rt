@@ -47,7 +47,7 @@ pub const HELD_LISTS: usize = HELD_LABELS + BY_PAIR;
 // How many words there are.
 pub const WORDS: usize = HELD_LISTS + BY_PAIR;
 
-// The words of a network.
+// The words of a network: an array and no struct, since callers lend them, C too, as words in fixed memory; so calls on them are functions.
 pub type Network = [u32; WORDS];
 
 // A node's row as it is read, with its hops.
@@ -259,8 +259,10 @@ pub fn arc_words(net: &Network, words: &mut [u32; BY_NODE])
     ensures { words.new ≡ arc_words_of (view net.now) }
 {
     let n = nodes(net);
-    for (r, word) in words.iter_mut().enumerate() {
-        *word = arc_word(net, n, r as u32);
+    *words = [0u32; BY_NODE];
+    // By number and not by `iter_mut().enumerate()`: passing all 32 words takes longer with few nodes.
+    for r in 0u32..n {
+        words[r as usize] = arc_word(net, n, r);
     }
 }
 
@@ -298,13 +300,14 @@ pub fn cost_word(net: &Network, pair: Pair) -> u32
     pair_word(net, COSTS, pair) % 65536 + 1
 }
 
-// The label of the report that it holds, and its list, 0 where that report is empty.
+// The label of the report that it holds.
 pub fn held_label_word(net: &Network, pair: Pair) -> u32
     ensures { result ≡ held_label_word_of net.now pair.sender pair.receiver }
 {
     pair_word(net, HELD_LABELS, pair)
 }
 
+// The list of the report that it holds; 0 where that report is empty.
 pub fn held_list_word(net: &Network, pair: Pair) -> u32
     ensures { result ≡ held_list_word_of net.now pair.sender pair.receiver }
 {

@@ -9,7 +9,7 @@ ghost use Rattle.network.specs.Answered.{fault_number};
 // The most nodes, as a size and as a number; and the largest label: 31 times the largest cost.
 pub const NODES: usize = 32;
 
-pub const MAX_NODES: u32 = 32;
+pub const MAX_NODES: u32 = NODES as u32;
 
 pub const MAX_COST: u32 = 65535;
 

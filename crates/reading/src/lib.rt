@@ -157,7 +157,8 @@ fn bodied<F: FnOnce(&[u8]) -> Event>(input: &[u8], at: usize, size: usize, read:
     }
 }
 
-// ---- sections: a missing kind byte is refused as Cut, then a kind that is not allowed as Kind
+// ---- sections, each matching on the numbers of kinds itself: one function for all three was tried and is slower, and an enum of kinds would be matched
+// twice, no plainer; a missing kind byte is refused as Cut, then a kind that is not allowed as Kind
 
 // The first record: kind 1.
 pub fn start_record(input: &[u8]) -> Record

@@ -31,7 +31,8 @@ pub enum ArcChange {
     },
 }
 
-// A record that was read: a change, a round or a refusal with its fault and place, and what else an image has.
+// A record that was read: a change, a round or a refusal with its fault and place, and what else an image has. A refusal is a case and no `Err`: the
+// definitions of records go by events, and a refused grade has its record's length, so that a `Result` would be no plainer.
 #[derive(Clone, Copy, PartialEq, Eq)]
 pub enum Event {
     End,

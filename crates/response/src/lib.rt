@@ -11,10 +11,7 @@ ghost use Rattle.response.specs.Messages.{hops_metric_of, entry, entry_count_of,
 ghost use Rattle.response.specs.Reading.{entry_fault, entry_metric};
 
 use arrayvec::ArrayVec;
-use network::Fault;
-
-// The most nodes.
-pub const NODES: usize = network::NODES;
+use network::{Fault, NODES};
 
 // The metric that stands for no route.
 pub const INFINITY: u8 = 16;

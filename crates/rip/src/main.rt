@@ -17,13 +17,13 @@ const RUN_ROOM: usize = text::MAX_INPUT + 1;
 const MESSAGES_ROOM: usize = response::MAX_MESSAGES + 1;
 
 // The most bytes of an argument.
-const MOST: usize = 4096;
+const ARGUMENT_ROOM: usize = 4096;
 
 // ---- arguments; one that has no room can't be read
 
 // How many arguments there are, the program's name among them; 5 where there are more than four.
 fn argument_count(rt: &HostRuntime) -> usize {
-    let mut text = [0u8; MOST];
+    let mut text = [0u8; ARGUMENT_ROOM];
     for i in 0..5 {
         if let Err(FillError::NotPresent) = rt.arg(i, &mut text) {
             return i;
@@ -36,7 +36,7 @@ fn argument_count(rt: &HostRuntime) -> usize {
 fn argument<T, F: FnOnce(&[u8]) -> Option<T>>(rt: &HostRuntime, i: usize, read: F) -> Option<T>
     requires { F.IsAlwaysCallable read }
 {
-    let mut text = [0u8; MOST];
+    let mut text = [0u8; ARGUMENT_ROOM];
     let n = rt.arg(i, &mut text).ok()?;
     read(&text[..n])
 }
@@ -59,7 +59,7 @@ fn say(rt: &HostRuntime, said: Result<Said, Refusal>) {
     }
 }
 
-// ---- writing
+// ---- writing; this and reading each lend a room of their own size to a call of their own, which one function over closures would say no plainer
 
 // The run; nothing is read where the base is refused.
 fn read_run(rt: &HostRuntime, base: u32, room: &mut [u8]) -> io::Result<usize>

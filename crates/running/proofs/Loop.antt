@@ -32,10 +32,6 @@ pub record Rest (s : List ℕ) (o : Running) (x : Net) (rounds at : ℕ) : Type 
   pub few : rounds ≤ at
   pub same : read_events fuel x rounds at (drop at s) ≡ o
 
--- at the first event
-pub begin : (s : List ℕ) (x : Net) (at : ℕ) → at ≤ length s → Rest s (events_from s x at) x 0 at
-begin s x at h = record { fuel = length s; enough = omega arith; within = h; few = omega arith; same = refl }
-
 -- the record at `at`
 abbrev pub event_record_of : List ℕ → ℕ → Record
 event_record_of s at = record_of as_event at (drop at s)

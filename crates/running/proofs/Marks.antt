@@ -32,6 +32,3 @@ pub one_filled : (b w : List ℕ) (i x : ℕ) → i < length w → take i w ≡ 
 one_filled b w i x h e p =
     rw add-one
     (take-suc-set w i x h ∙ ap (λ l. l ++ (x ∷ [])) e ∙ ap (λ y. words_in i b ++ (y ∷ [])) p ∙ sym (words_more i b))
-
-pub all_filled : (b w : List ℕ) (i : ℕ) → i ≡ 32 → length w ≡ 32 → take i w ≡ words_in i b → w ≡ words_in 32 b
-all_filled b w i h l e = sym (take_all 32 w (omega arith)) ∙ sym (ap (λ n. take n w) h) ∙ e ∙ ap (λ n. words_in n b) h

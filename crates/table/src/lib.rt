@@ -24,6 +24,9 @@ pub type Text = ArrayVec<u8, MAX_TEXT>;
 
 // ---- a line of the table
 
+// A number is written from a `usize`, for which std has no `From<u32>`. The room that is asked for is another number in each contract, so that no type
+// holds it.
+
 // A number is written from a `usize`, for which std has no `From<u32>`.
 
 // Label, predecessor and hops of a relay with a route.

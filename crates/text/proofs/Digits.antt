@@ -3,10 +3,13 @@
 use mathlib.Core.Path.{◌≡◌, sym, ap, ◌∙◌}
 use mathlib.Core.List.{List, [], ◌∷◌, ◌++◌}
 use mathlib.Core.Logic.{⊎_elim}
-use Prim.Native.Nat.{ℕ, zero, suc, ◌+◌, ◌/◌, ◌%◌, ◌^◌, ◌<◌, ◌≤◌}
+use Prim.Native.Nat.{ℕ, zero, suc, ◌+◌, ◌*◌, ◌/◌, ◌%◌, ◌^◌, ◌<◌, ◌≤◌}
+use native.Mathlib.Nat.{pow-suc, one-le-pow}
+use native.Mathlib.Numerals.{unary_clauses}
 use native.Mathlib.Omega.{arith}
 use lib.ListN.{length}
 use borrow.Author.Tests.{lt-ltb, le-ltb}
+use Rattle.io.specs.Digits.{last_digits, IsDigitCount}
 use Rattle.std.specs.Fmt.{decimal as written}
 use Rattle.std.proofs.lemmas.Fmt.{decimal_by_steps, length-decimal-le}
 use Rattle.ancestors.proofs.Cases.{le_or_lt}
@@ -35,16 +38,33 @@ pub decimal_more : (n : ℕ) → 10 ≤ n → decimal n ≡ decimal (n / 10) ++ 
 unfolding decimal decimal_in
 decimal_more n h = rw (le-ltb n 10 h) (ap (λ (l : List ℕ). l ++ last n) (enough n (suc (n / 10)) (n / 10) (omega arith) (omega arith)))
 
+-- the fewest digits that hold n, as `io` gives them, are its decimal digits
+pub digits_decimal : (k n : ℕ) → IsDigitCount 10 1 n k → last_digits 10 k n ≡ decimal n
+digits_decimal zero n h = absurd (omega arith)
+digits_decimal (suc zero) n h =
+    let p : n % 10 < 10 = omega arith in
+    rw (lt-ltb (n % 10) 10 p) (sym (decimal_one n (omega arith)))
+digits_decimal (suc (suc k)) n h =
+    let p : n % 10 < 10 = omega arith in
+    let t = 10 ^ k in
+    let a : 10 ^ suc k ≡ t * 10 = pow-suc 10 k in
+    let b : 10 ^ suc (suc k) ≡ 10 ^ suc k * 10 = pow-suc 10 (suc k) in
+    let one : 1 ≤ t = one-le-pow k 10 (omega arith) in
+    let low : t * 10 ≤ n = simp unary_clauses at (h.2 (omega arith)) in
+    rw (lt-ltb (n % 10) 10 p)
+    (ap (λ (l : List ℕ). l ++ last n) (digits_decimal (suc k) (n / 10) (omega arith, omega (arith, h.1), λ _. simp unary_clauses (omega arith))) ∙
+    sym (decimal_more n (omega arith)))
+
 -- the digits that the library writes are the decimal digits
-pub digits_decimal : (n : ℕ) → n < 2 ^ 64 → written n ≡ decimal n
-digits_decimal =
+pub written_decimal : (n : ℕ) → n < 2 ^ 64 → written n ≡ decimal n
+written_decimal =
     decimal_by_steps (λ (n : ℕ) (l : List ℕ). l ≡ decimal n)
     (λ n h. let e : n % 10 ≡ n = omega arith in rw (decimal_one n h, e))
     (λ n l h e. ap (λ (d : List ℕ). d ++ last n) e ∙ sym (decimal_more n h))
 
 -- a number of 32 bits has at most 10, and one of 64 bits at most 20
 pub short_digits : (n : ℕ) → n < 2 ^ 32 → length (decimal n) ≤ 10
-short_digits n h = omega (arith, ap length (digits_decimal n (omega arith)), length-decimal-le 10 n (omega arith) (omega arith) (omega arith))
+short_digits n h = omega (arith, ap length (written_decimal n (omega arith)), length-decimal-le 10 n (omega arith) (omega arith) (omega arith))
 
 pub long_digits : (n : ℕ) → n < 2 ^ 64 → length (decimal n) ≤ 20
-long_digits n h = omega (arith, ap length (digits_decimal n h), length-decimal-le 20 n (omega arith) (omega arith) h)
+long_digits n h = omega (arith, ap length (written_decimal n h), length-decimal-le 20 n (omega arith) (omega arith) h)

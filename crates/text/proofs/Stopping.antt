@@ -23,7 +23,3 @@ last_stop number place h = rw (ne_eqb number 0 h)
 pub stop_most : (number place : ℕ) → number < 2 ^ 64 → place < 2 ^ 64 → length (stop_line number place) ≤ 53
 unfolding stop_line field
 stop_most number place h k = grind (arith, length-append, long_digits)
-
-pub last_most : (number place : ℕ) → number < 2 ^ 64 → place < 2 ^ 64 → length (last_line number place) ≤ 53
-unfolding last_line
-last_most number place h k = grind (arith, stop_most)

@@ -4,7 +4,7 @@
 #![tactic(auto)]
 
 ghost use Rattle.std.specs.Prelude.{◌≡◌, ◌++◌};
-ghost use Rattle.text.specs.Text.{decimal, stop_line, last_line};
+ghost use Rattle.text.specs.Text.{decimal, stop_line};
 ghost use Rattle.text.specs.Adds.{added};
 
 use arrayvec::ArrayVec;
@@ -23,7 +23,7 @@ pub fn push_text<const N: usize>(text: &mut ArrayVec<u8, N>, bytes: &[u8])
 }
 
 // Bytes and a number in decimal.
-#[tactic(auto, using(crate::proofs::Adding::pushes, crate::proofs::Digits::digits_decimal), unfolding(crate::specs::Adds::added))]
+#[tactic(auto, using(crate::proofs::Adding::pushes, crate::proofs::Digits::written_decimal), unfolding(crate::specs::Adds::added))]
 pub fn push_number<const N: usize>(text: &mut ArrayVec<u8, N>, before: &[u8], n: usize)
     ensures { text.new.items ≡ added N (before.now ++ decimal n) text.old.items }
 {
@@ -45,14 +45,4 @@ pub fn push_stop<const N: usize>(text: &mut ArrayVec<u8, N>, number: u8, place: 
     push_number(&mut line, b" at ", place);
     push_text(&mut line, b"\n");
     push_text(text, &line);
-}
-
-// The line of a refusal, number and place; nothing where the number is 0.
-#[tactic(auto, unfolding(crate::specs::Text::last_line, crate::specs::Adds::added))]
-pub fn push_last<const N: usize>(text: &mut ArrayVec<u8, N>, number: u8, place: usize)
-    ensures { text.new.items ≡ added N (last_line number place) text.old.items }
-{
-    if number != 0 {
-        push_stop(text, number, place);
-    }
 }

@@ -1,7 +1,7 @@
 -- `bench::bench_read_messages` meets its contract: number, nodes and metrics in 34 words.
 -- Assumes nothing.
 use mathlib.Core.Path.{sym, ap, ◌∙◌}
-use mathlib.Core.List.{[], ◌∷◌}
+use mathlib.Core.List.{◌∷◌}
 use lib.ListN.{length, set}
 use Rattle.network.proofs.Answered.{fault_some}
 use Rattle.response.proofs.Callers.{read_none}

@@ -4,7 +4,7 @@ use mathlib.Core.Path.{sym, ap, ◌∙◌}
 use native.Mathlib.Omega.{arith}
 use Rattle.network.specs.Network.{Net}
 use Rattle.running.proofs.Finished.{refused, stopped, reached}
-use Rattle.response.specs.Messages.{row_messages, count_fault}
+use Rattle.response.specs.Messages.{count_fault}
 use Rattle.command.specs.Saying.{on_output}
 use Rattle.command.proofs.Texts.{run_stops, run_writes, run_count, said_err}
 use Rattle.command.proofs.run_said.Goals as goal

@@ -12,7 +12,7 @@ loop-s-init c = sym (count_none _)
 pub overflow_add-total : goal.overflow_add-total
 overflow_add-total c =
     let l = c.loop-s in
-    omega (arith, held_most _ _ _ l.s c.listed.ensures c.held_list_word.ensures c.from-total.ensures l.invariant c.loop-s-test.true)
+    omega (arith, held_most _ _ _ l.s c.listed.ensures c.holds_report.ensures c.from-total.ensures l.invariant c.loop-s-test.true)
 
 pub loop-s-preserved : goal.loop-s-preserved
-loop-s-preserved c = held_next _ _ _ _ c.listed.ensures c.held_list_word.ensures c.from-total.ensures c.loop-s.invariant
+loop-s-preserved c = held_next _ _ _ _ c.listed.ensures c.holds_report.ensures c.from-total.ensures c.loop-s.invariant

@@ -14,14 +14,14 @@ pub overflow_add-total : goal.overflow_add-total
 overflow_add-total c =
     let a = c.args in
     let visit = walk_visits (omega arith) (λ i b e h. held_none a.net.now a.arcs a.r i e h) c.in-Some.s c.loop-s.invariant.2 c.in-Some.ensures.steps in
-    omega (arith, held_most a.net.now a.arcs a.r c.in-Some.s (sym visit.here) c.held_list_word.ensures c.from-total.ensures visit.known visit.below)
+    omega (arith, held_most a.net.now a.arcs a.r c.in-Some.s (sym visit.here) c.holds_report.ensures c.from-total.ensures visit.known visit.below)
 
 pub loop-s-preserved : goal.loop-s-preserved
 loop-s-preserved c =
     let a = c.args in
     let steps = c.in-Some.ensures.steps in
     let visit = walk_visits (omega arith) (λ i b e h. held_none a.net.now a.arcs a.r i e h) c.in-Some.s c.loop-s.invariant.2 steps in
-    let next = held_next a.net.now a.arcs a.r c.in-Some.s (sym visit.here) c.held_list_word.ensures c.from-total.ensures visit.known in
+    let next = held_next a.net.now a.arcs a.r c.in-Some.s (sym visit.here) c.holds_report.ensures c.from-total.ensures visit.known in
     (tt, tt, walk_on (omega arith) c.in-Some.s c.loop-s.invariant.2 steps next)
 
 pub returns : goal.returns

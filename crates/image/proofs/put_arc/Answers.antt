@@ -1,10 +1,8 @@
--- `image::put_arc` meets its contract: five bytes, stored one by one.
+-- `image::put_arc` meets its contract: five bytes, of which two are a number.
 -- Assumes nothing.
-use Rattle.records.specs.Numbers.{be8, be16}
-use Rattle.records.specs.Records.{body_length, arc_record_of}
-use Rattle.image.proofs.Stores.{stored_five}
+use mathlib.Core.Path.{◌∙◌}
+use Rattle.image.proofs.Stores.{low_bytes, stored_arc}
 use Rattle.image.proofs.put_arc.Goals as goal
 
 pub returns : goal.returns
-unfolding body_length arc_record_of be16 be8
-returns c = stored_five _ _ _ _ _ c.args.out.now c.requires
+returns c = rw (c.copy_from_slice.ensures.after ∙ c.to_be_bytes.ensures ∙ low_bytes c.args.cost) (stored_arc _ _ _ c.args.out.now c.requires)

@@ -1,12 +1,11 @@
 -- `image::write_lines` meets its contract. The loop's invariant: the lines passed stand at the front.
 -- Assumes nothing.
-use native.Mathlib.Omega.{arith}
 use mathlib.Core.List.{List}
 use Prim.Native.Nat.{ℕ}
 use Rattle.records.specs.Image.{each}
 use Rattle.records.proofs.Each.{each_zero}
 use Rattle.filling.proofs.Parts.{wrote_none}
-use Rattle.image.proofs.Lengths.{next_room, next_ends, next_wrote}
+use Rattle.image.proofs.Lengths.{next_room, next_wrote}
 use Rattle.image.proofs.write_lines.Goals as goal
 
 pub loop-sender-init : goal.loop-sender-init

@@ -1,7 +1,6 @@
 -- `image::write_report` meets its contract: the arc's bit decides, and then the word of the report's list.
 -- Assumes nothing.
-use mathlib.Core.Path.{sym, ap, ◌∙◌}
-use Rattle.memory.specs.Layout.{held_label_word_of}
+use mathlib.Core.Path.{sym, ap₂, ◌∙◌}
 use Rattle.records.specs.Records.{report_record_of}
 use Rattle.filling.proofs.Parts.{wrote_none, wrote_as, room_as}
 use Rattle.image.proofs.Lengths.{report_size}
@@ -23,11 +22,9 @@ put_report-requires c =
 
 pub returns : goal.returns
 returns c =
-    let a = c.args in
-    let p = a.pair in
+    let p = c.args.pair in
     let bit = sym c.has_arc.ensures ∙ c.if-not-has_arc.false in
     let list = c.held_list_word-list.ensures in
     wrote_as
-    (report_some _ _ _ bit (λ z. c.if-list-eq0.false (list ∙ z))
-    ∙ ap (report_record_of p.sender p.receiver (held_label_word_of a.from.now.net.now p.sender p.receiver)) (sym list))
+    (report_some _ _ _ bit (λ z. c.if-list-eq0.false (list ∙ z)) ∙ ap₂ (report_record_of p.sender p.receiver) (sym c.held_label_word.ensures) (sym list))
     c.put_report.ensures

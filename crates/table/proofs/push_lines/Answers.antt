@@ -1,8 +1,7 @@
 -- `table::push_lines` meets its contract: a line more each time.
 -- Assumes nothing.
 use native.Mathlib.Omega.{arith}
-use mathlib.Core.Path.{sym, ap, ◌∙◌}
-use mathlib.Core.List.{◌++◌, append_assoc, append-nil}
+use mathlib.Core.List.{append_assoc, append-nil}
 use Rattle.memory.specs.Layout.{view}
 use Rattle.memory.proofs.Laws.{few}
 use Rattle.records.proofs.Each.{each_zero, each_next}
