@@ -145,11 +145,6 @@ module _ (x : Net) (y : ℕ) (r : Result RowRead Fault) (said : row_means r ≡ 
 -- ---- what an answer says of the cost from s to t
 
 module _ (x : Net) (s t : ℕ) (r : Result ℕ Fault) (said : cost_means r ≡ read_cost x s t) where
-  -- a bad pair is refused
-  pub said_no_pair : {f : Fault} → r ≡ Err f → pair_fault_of x.nodes s t ≡ true
-  unfolding read_cost cost_means
-  said_no_pair {f} e = refused (λ (a : CostAnswer). a.number) (pair_fault_of x.nodes s t) _ _ _ (sym (ap cost_means e) ∙ said) refl (fault_some f)
-
   -- a pair of nodes has this cost
   pub said_cost : {c : ℕ} → r ≡ Ok c → (pair_fault_of x.nodes s t ≡ false) × (c ≡ x.cost s t)
   unfolding read_cost cost_means

@@ -13,7 +13,6 @@ use Rattle.ancestors.proofs.Cases.{bool_cases, eq_or_ne}
 use Rattle.network.specs.Faults.{max_nodes}
 use Rattle.network.specs.Network.{Net}
 use Rattle.network.specs.Writing.{Writes, writing}
-use Rattle.network.specs.Answered.{answered}
 use Rattle.network.specs.declared.Fault.{Fault}
 use Rattle.network.proofs.Effects.{writing_accepted}
 use Rattle.filling.specs.Filling.{Wrote}
@@ -25,14 +24,11 @@ use Rattle.response.proofs.Buffers.{node_metric, metrics_by_node}
 use Rattle.response.proofs.Answering.{count_says, given_says, given_right, number_of, read_given, read_wrong, read_right, wrong_length}
 use Rattle.response.proofs.RoundTrip.{room_enough}
 
--- base and n are right and there is room for the most: the call is accepted, and the messages stand at the front of the output
+-- base and n are right and there is room for the most: the messages stand at the front of the output
 module _ (base : ℕ) (x : Net) (out : List ℕ) {r : Result ℕ Fault} {exit : List ℕ} (writes : Writes (write_of base x out) r exit)
     (base_right : base_fault base ≡ false) (count_right : count_fault x.nodes ≡ false) (room : max_messages ≤ length out) where
   number_zero : write_number base x (length out) ≡ 0
   number_zero = sym (number_of base x out) ∙ room_enough base x out room ∙ given_right base x.nodes 0 base_right count_right
-
-  pub wrote_accepted : answered r ≡ 0
-  wrote_accepted = writes.number ∙ number_of base x out ∙ number_zero
 
   pub wrote_messages : Wrote (row_messages base x) out exit (result_unwrap_or r 0)
   unfolding write_of

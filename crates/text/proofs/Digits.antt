@@ -62,9 +62,6 @@ written_decimal =
     (λ n h. let e : n % 10 ≡ n = omega arith in rw (decimal_one n h, e))
     (λ n l h e. ap (λ (d : List ℕ). d ++ last n) e ∙ sym (decimal_more n h))
 
--- a number of 32 bits has at most 10, and one of 64 bits at most 20
-pub short_digits : (n : ℕ) → n < 2 ^ 32 → length (decimal n) ≤ 10
-short_digits n h = omega (arith, ap length (written_decimal n (omega arith)), length-decimal-le 10 n (omega arith) (omega arith) (omega arith))
-
+-- a number of 64 bits has at most 20
 pub long_digits : (n : ℕ) → n < 2 ^ 64 → length (decimal n) ≤ 20
 long_digits n h = omega (arith, ap length (written_decimal n h), length-decimal-le 20 n (omega arith) (omega arith) h)
