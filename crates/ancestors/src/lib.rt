@@ -29,6 +29,9 @@ pub fn joined(list: u32, node: u32) -> u32
     list | (1u32 << node)
 }
 
+// A list and a node stay two numbers: a list is a word of the network's memory (fixed memory). `left_out` and `below` have only their test's shape in
+// common and answer other bits, so that one function for both would be no plainer.
+
 // The list without the node.
 pub fn left_out(list: u32, node: u32) -> u32
     ensures { result ≡ cond (ltb node 32) (cut list node) list }
@@ -63,7 +66,7 @@ pub fn lowest(list: u32) -> u32
     list.trailing_zeros()
 }
 
-// The nodes of a list that are not yet passed, lowest first.
+// The nodes of a list that are not yet passed, lowest first. `Drop` alone: it is used up, and a copy would pass the nodes again.
 #[derive(Drop)]
 pub struct Nodes {
     left: u32,

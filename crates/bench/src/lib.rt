@@ -1,5 +1,6 @@
 // The calls under C names, for the benchmark in bench/ and the comparisons in tests/. C takes numbers and lent words: where the answer is a number it is
-// the call itself, with its contract; the others hand out the answer in lent words.
+// the call itself, with its contract; the others hand out the answer in lent words, of a number that C knows: so calls with two, three or five words stay
+// apart, and opening stays apart from a run.
 //
 // `as u64` is from a `usize`, for which std has no `From`.
 #![tactic(auto)]

@@ -27,7 +27,7 @@ pub const MAX_LINE: usize = 64;
 
 pub type Line = ArrayVec<u8, MAX_LINE>;
 
-// Why nothing is written to standard output.
+// Why nothing is written to standard output: an error enum, with a case for each line that is said.
 #[derive(Clone, Copy)]
 pub enum Refusal {
     // Arguments that can't be read.
@@ -131,6 +131,7 @@ fn messages_of(net: &Network, base: u32) -> Said
     requires count_right { count_fault (view net.now).nodes ≡ false }
     ensures { result.items ≡ row_messages base (view net.now) }
 {
+    // On the stack (no heap), for a writer into lent bytes.
     let mut room = [0u8; response::MAX_MESSAGES];
     let used = messages::write_messages(net, base, &mut room).unwrap_or(0);
     let mut said = Said::new();
@@ -138,12 +139,15 @@ fn messages_of(net: &Network, base: u32) -> Said
     said
 }
 
+// A base and an input stay two parameters: one is an argument of the program and the other what it reads, and each function is called once.
+
 // Of a run: its messages.
 fn run_said(base: u32, input: &[u8]) -> Result<Said, Refusal>
     requires { base_fault base ≡ false }
     ensures output { IfOk result (λ said. run_text base (run_of input.now) ≡ on_output said.items) }
     ensures line { IfErr result (λ refusal. run_text base (run_of input.now) ≡ refusal_text refusal) }
 {
+    // A network's words on the stack (no heap).
     let mut net = [0u32; memory::WORDS];
     running::run_into(&mut net, input)?.finished()?;
     Ok(messages_of(&net, base))

@@ -28,6 +28,7 @@ fn run_image(run: &[u8], out: &mut [u8]) -> Result<usize, Stop>
     if MAX_RUN < run.len() {
         return Err(at_start(Fault::Range));
     }
+    // A network's words on the stack (no heap).
     let mut net = [0u32; memory::WORDS];
     running::run_into(&mut net, run)?.finished()?;
     image::write_image(&net, out).map_err(at_start)

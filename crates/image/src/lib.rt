@@ -58,7 +58,7 @@ fn put_end(out: &mut [u8]) -> usize
     END_LENGTH
 }
 
-// A cast to a byte is of a remainder below 256.
+// A cast to a byte or to 16 bits is of a remainder that fits. An index is a `usize`, for which std has no `From<u32>`.
 
 // The first record of an image.
 fn put_header(out: &mut [u8], n: u32, origin: u32) -> usize
@@ -83,7 +83,7 @@ fn put_arc(out: &mut [u8], pair: Pair, cost: u32) -> usize
     ARC_LENGTH
 }
 
-// A number in four bytes from a place on.
+// A number in four bytes from a place on: a place inside a record, and not how far an output is filled.
 fn put32(out: &mut [u8], at: usize, x: u32)
     requires { at + 4 ≤ length out.old }
     ensures { out.new ≡ take at out.old ++ (be32 x ++ drop (at + 4) out.old) }
@@ -119,7 +119,8 @@ fn put_report(out: &mut [u8], pair: Pair, report: HeldReport) -> usize
 
 // ---- what the network has
 
-// A network with the words of its arcs, one for each receiver.
+// A network with the words of its arcs, one for each receiver; `Drop` alone, since it is made for one call. The pair or the output that goes with it is
+// another one in each call, so that a struct of all would be made for each record, no plainer.
 #[derive(Drop)]
 struct Source<'a> {
     net: &'a Network,
@@ -367,6 +368,7 @@ fn fits(from: &Source, room: usize) -> bool
 pub fn image_length(net: &Network) -> usize
     ensures { result ≡ length (image (view net.now)) }
 {
+    // On the stack (no heap).
     let mut arcs = [0u32; NODES];
     memory::arc_words(net, &mut arcs);
     counted_length(&Source { net, arcs: &arcs })
@@ -376,6 +378,7 @@ pub fn image_length(net: &Network) -> usize
 pub fn write_image(net: &Network, out: &mut [u8]) -> Result<usize, Fault>
     ensures { Writes (image_of (view net.now) out.old) result out.new }
 {
+    // On the stack (no heap).
     let mut arcs = [0u32; NODES];
     memory::arc_words(net, &mut arcs);
     let from = Source { net, arcs: &arcs };

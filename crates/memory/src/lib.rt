@@ -178,6 +178,8 @@ fn set_cost(net: &mut Network, pair: Pair, cost: u32) -> Result<(), Fault>
     Ok(())
 }
 
+// A change and a grade share `set_cost`; what is left of each is its own limit and what its number stands for, so that one function would be no plainer.
+
 // Sets the cost of a pair; cost 0 removes the arc. Refused as Range for a bad pair or a cost above 65,535.
 #[tactic(auto, using(crate::proofs::Laws::leaves_refused), unfolding(network::specs::Change::change_of, network::specs::Change::change_number, network::specs::Faults::cost_fault))]
 pub fn change(net: &mut Network, pair: Pair, cost: u32) -> Result<(), Fault>

@@ -1,7 +1,7 @@
 // The calls on RIP version 2 Response messages (RFC 2453): a network's rows written into an output that the caller lends, and messages read back.
 //
 // Contracts go by change request Three's definitions (crates/response/specs) and hold for any words and bytes. The network is read by calls of `memory`.
-// A refused call writes nothing. No public function has a precondition.
+// A refused call writes nothing. No public function has a precondition. An index is a `usize`, for which std has no `From<u32>`.
 #![tactic(auto)]
 
 ghost use Rattle.std.specs.Prelude.{◌≡◌, cond, IfOk, OnOk, ◌++◌, ◌+◌, ◌*◌, ◌<◌, ◌≤◌, length};

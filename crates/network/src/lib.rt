@@ -6,7 +6,7 @@
 ghost use Rattle.std.specs.Prelude.{◌≡◌};
 ghost use Rattle.network.specs.Answered.{fault_number};
 
-// The most nodes, as a size and as a number; and the largest label: 31 times the largest cost.
+// The most nodes, as a size and as a number (a cast, since a constant can't call `try_from`); and the largest label: 31 times the largest cost.
 pub const NODES: usize = 32;
 
 pub const MAX_NODES: u32 = NODES as u32;

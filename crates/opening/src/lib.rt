@@ -45,7 +45,7 @@ fn in_order(next: usize, rank: usize) -> Result<usize, Fault>
 }
 
 // The next functions place a record and answer the ranks above it, None for the end of the image. Each has a test, a rank and a call of its own, so that one
-// function over closures, or a struct of the network and `next`, would be no plainer.
+// function over closures, or a struct of the network and `next`, would be no plainer. Nor would one of the network, lent to be changed, and the input.
 
 // Sets an arc of the image: Range for the pair or the cost, then Order.
 #[tactic(auto, using(memory::proofs::Laws::few, network::proofs::FaultLaws::pair_says), unfolding(records::specs::Opening::placed, records::specs::Opening::judged, records::specs::Opening::order_number, network::specs::Faults::first_number, network::specs::Network::outcome, records::specs::Opening::arc_number, network::specs::Faults::cost_fault, network::specs::Change::change_number, network::specs::Change::change_of))]

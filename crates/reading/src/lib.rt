@@ -15,6 +15,8 @@ use records::{ArcChange, Event, Record};
 
 // ---- numbers; a byte past the end counts as 0, so that no call fails
 
+// Bytes and a place stay two parameters: a body is read once at each place of its kind, and a struct of both would be made for each number, no plainer.
+
 // The number in the byte at i.
 #[tactic(auto, unfolding(records::specs::Numbers::num8))]
 fn get8(b: &[u8], i: usize) -> u32

@@ -59,7 +59,8 @@ fn say(rt: &HostRuntime, said: Result<Said, Refusal>) {
     }
 }
 
-// ---- writing; this and reading each lend a room of their own size to a call of their own, which one function over closures would say no plainer
+// ---- writing; this and reading each lend a room of their own size to a call of their own, which one function over closures would say no plainer. The
+// runtime and a base stay two parameters: the calls that take both have nothing else in common.
 
 // The run; nothing is read where the base is refused.
 fn read_run(rt: &HostRuntime, base: u32, room: &mut [u8]) -> io::Result<usize>

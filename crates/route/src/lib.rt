@@ -61,6 +61,7 @@ pub fn route(net: &Network, node: u32, out: &mut [u8]) -> Result<usize, Fault>
     ensures { Writes (route_of (view net.now) node out.old) result out.new }
 {
     check_start(net, node)?;
+    // The nodes on the stack (no heap): whether the output has room is known at the walk's end.
     let mut bytes = [0u8; NODES];
     let Some(nodes) = walk_back(net, node, &mut bytes) else {
         return Err(Fault::Broken);

@@ -63,7 +63,11 @@ fn either(marked: bool, new: u32, old: u32) -> u32
     if marked { new } else { old }
 }
 
-// A marked arc holds what its sender's row reports; an unmarked one keeps its report. What is stored at a pair without an arc plays no part.
+// Network, receiver and a word of arcs or marks stay three parameters: the network is lent to be changed, and a struct of the three would be made for each
+// receiver and taken apart at once, no plainer.
+
+// A marked arc holds what its sender's row reports; an unmarked one keeps its report. What is stored at a pair without an arc plays no part. `told` is a
+// bit for `either`.
 #[tactic(auto, using(crate::proofs::Hearing::hear_arc))]
 fn hear_arc(net: &mut Network, sender: Node, receiver: Node, told: bool)
     ensures { by_words net.new ≡ hear_arcs (one_mark sender.index receiver.index told) (by_words net.old) }

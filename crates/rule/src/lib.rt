@@ -47,7 +47,7 @@ struct Kept {
 const FEW: usize = 8;
 
 // What a receiver chooses from: its arcs as a word, and by sender the words of their costs and the labels and lists of the reports that it holds.
-// Three slices and not one of structs: the words lie by kind in the network's memory (fixed memory).
+// Three slices and not one of structs: the words lie by kind in the network's memory (fixed memory). `Drop` alone: it is made for one call.
 #[derive(Drop)]
 struct Senders<'a> {
     arcs: u32,

@@ -23,6 +23,7 @@ use records::{ArcChange, Event, Stop};
 fn marks_of(body: &[u8]) -> [u32; 32]
     ensures { result ≡ words_in 32 body.now }
 {
+    // On the stack (no heap), and all 32 at once, as `routing::round` takes them.
     let mut marks = [0u32; 32];
     for (r, mark) in marks.iter_mut().enumerate() {
         *mark = reading::word(body, 4 * r);
@@ -62,6 +63,9 @@ fn change_arc(net: &mut Network, change: ArcChange) -> Result<(), Fault>
 
 // The bytes of a marked round's record: its kind byte and its body.
 const ROUND_LENGTH: usize = 1 + records::ROUND_BODY;
+
+// A network and an input stay two parameters: one is lent to be changed and the other to be read, and a struct of both would be taken apart at each call,
+// no plainer.
 
 // Does the event of the record at `at`. Accepted, the answer is the rounds for which it counts.
 #[tactic(auto, using(crate::proofs::Events::still, crate::proofs::Events::marks_here, crate::proofs::Events::does_other), unfolding(records::specs::Running::event_done, records::specs::Running::rounds_in, records::specs::Records::body_length))]

@@ -27,8 +27,6 @@ pub type Text = ArrayVec<u8, MAX_TEXT>;
 // A number is written from a `usize`, for which std has no `From<u32>`. The room that is asked for is another number in each contract, so that no type
 // holds it.
 
-// A number is written from a `usize`, for which std has no `From<u32>`.
-
 // Label, predecessor and hops of a relay with a route.
 #[tactic(auto, using(text::proofs::Adding::pushes), unfolding(text::specs::Text::field))]
 fn push_route(text: &mut Text, route: Route, hops: u32)
@@ -115,6 +113,7 @@ fn run_text(input: &[u8]) -> Text
     ensures { result.items ≡ text_of input.now }
 {
     let mut text = Text::new();
+    // A network's words on the stack (no heap).
     let mut net = [0u32; memory::WORDS];
     match running::run_into(&mut net, input) {
         Ok(run) => {
