@@ -104,7 +104,7 @@ fn bad_size(n: u32, origin: u32) -> bool
     n == 0 || network::MAX_NODES < n || n <= origin
 }
 
-// Makes the lent words a network of n nodes with no arcs and no routes but the origin's. Refused for n or an origin out of range, and then they are
+// Makes the lent words a network of n nodes with no arcs and no routes but the origin's. Refused as Range for n or an origin, and then they are
 // the fresh network of one node.
 #[tactic(auto, using(crate::proofs::Laws::starts_refused, crate::proofs::Laws::starts_accepted, network::proofs::FaultLaws::size_says), unfolding(network::specs::Network::fresh_of, network::specs::Network::fresh_number))]
 pub fn make_fresh(net: &mut Network, n: u32, origin: u32) -> Result<(), Fault>

@@ -7,24 +7,24 @@ use native.Mathlib.Omega.{arith}
 use Rattle.std.specs.Prelude.{Result, Ok, Err, IsErrAnd}
 use Rattle.network.specs.Answered.{fault_number, answered}
 use Rattle.network.specs.declared.Fault.{Fault}
-use Rattle.network.specs.declared.Fault.TheVariants.{Cut, Kind, Range, Order, Form, Room, Mark, NoRoute, Broken, Label, Predecessor, List, Base, Message}
+use Rattle.network.specs.declared.Fault.TheVariants as F
 
 -- it is 1 to 14
 pub fault_range : (f : Fault) → (0 < fault_number f) × (fault_number f ≤ 14)
-fault_range Cut = (omega arith, omega arith)
-fault_range Kind = (omega arith, omega arith)
-fault_range Range = (omega arith, omega arith)
-fault_range Order = (omega arith, omega arith)
-fault_range Form = (omega arith, omega arith)
-fault_range Room = (omega arith, omega arith)
-fault_range Mark = (omega arith, omega arith)
-fault_range NoRoute = (omega arith, omega arith)
-fault_range Broken = (omega arith, omega arith)
-fault_range Label = (omega arith, omega arith)
-fault_range Predecessor = (omega arith, omega arith)
-fault_range List = (omega arith, omega arith)
-fault_range Base = (omega arith, omega arith)
-fault_range Message = (omega arith, omega arith)
+fault_range F.Cut = (omega arith, omega arith)
+fault_range F.Kind = (omega arith, omega arith)
+fault_range F.Range = (omega arith, omega arith)
+fault_range F.Order = (omega arith, omega arith)
+fault_range F.Form = (omega arith, omega arith)
+fault_range F.Room = (omega arith, omega arith)
+fault_range F.Mark = (omega arith, omega arith)
+fault_range F.NoRoute = (omega arith, omega arith)
+fault_range F.Broken = (omega arith, omega arith)
+fault_range F.Label = (omega arith, omega arith)
+fault_range F.Predecessor = (omega arith, omega arith)
+fault_range F.List = (omega arith, omega arith)
+fault_range F.Base = (omega arith, omega arith)
+fault_range F.Message = (omega arith, omega arith)
 
 -- a refusal has a number other than 0
 pub fault_some : (f : Fault) → fault_number f ≢ 0

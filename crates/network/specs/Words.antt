@@ -64,11 +64,11 @@ choose_of arcs costs labels lists y =
     cond (words_fault costs labels lists y) refused_choice (chosen (choice (length costs) (costs_of arcs costs) (reports arcs labels lists) y))
 
 -- a row: no route, or label, predecessor and list
-unfoldable pub row_means : Option Route → Row
-row_means None = none
-row_means (Some w) = via w.label w.predecessor w.list
+unfoldable pub route_means : Option Route → Row
+route_means None = none
+route_means (Some w) = via w.label w.predecessor w.list
 
 -- number and row of each answer
 unfoldable pub choice_means : Result (Option Route) Fault → ChoiceAnswer
-choice_means (Ok w) = chosen (row_means w)
+choice_means (Ok w) = chosen (route_means w)
 choice_means (Err f) = record { number = fault_number f; row = none }

@@ -1,21 +1,21 @@
 -- What opening answers, and the network after it.
 -- Assumes nothing.
 use Rattle.std.specs.Prelude.{◌≡◌, cond, List, Option, Some, None, Result, Ok, Err, ℕ, ◌+◌, ltb}
-use Rattle.std.specs.Result.{result_unwrap_or}
+use Rattle.std.specs.Result.{result_unwrap_or, result_err}
 use Rattle.network.specs.Network.{Net}
 use Rattle.network.specs.Answered.{fault_number}
 use Rattle.network.specs.declared.Fault.{Fault}
 use Rattle.network.specs.declared.Fault.TheVariants.{Order}
 use Rattle.memory.specs.Layout.{view}
 use Rattle.records.specs.Opening.{Step, stop, finish, onward, placed, Opening, refused_opening, accepted_opening}
-use Rattle.records.specs.Stopped.{stop_number, stop_place, stop_of}
+use Rattle.records.specs.Stopped.{stop_number, stop_place}
 use Rattle.records.specs.declared.Event.{Event}
 use Rattle.records.specs.declared.Stop.{Stop}
 
 -- number, place and bytes used of the answer r, and the words, are what the opening o says
 pub record Opens (o : Opening) (r : Result ℕ Stop) (words : List ℕ) : Type 0 where
-  pub number_is : stop_number (stop_of r) ≡ o.number
-  pub place_is : stop_place (stop_of r) ≡ o.place
+  pub number_is : stop_number (result_err r) ≡ o.number
+  pub place_is : stop_place (result_err r) ≡ o.place
   pub used_is : result_unwrap_or r 0 ≡ o.used
   pub net_is : view words ≡ o.net
 

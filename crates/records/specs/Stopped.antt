@@ -1,6 +1,6 @@
 -- Number and place of an answer that may stop at a refusal.
 -- Assumes nothing.
-use Rattle.std.specs.Prelude.{Option, Some, None, Result, Ok, Err, ℕ}
+use Rattle.std.specs.Prelude.{Option, Some, None, ℕ}
 use Rattle.network.specs.Answered.{fault_number}
 use Rattle.records.specs.declared.Stop.{Stop}
 
@@ -12,8 +12,3 @@ stop_number (Some s) = fault_number s.fault
 abbrev pub stop_place : Option Stop → ℕ
 stop_place None = 0
 stop_place (Some s) = s.place
-
--- the refusal of an answer
-abbrev pub stop_of : {A : Type 0} → Result A Stop → Option Stop
-stop_of (Ok x) = None
-stop_of (Err s) = Some s

@@ -18,7 +18,7 @@ use Rattle.network.specs.Faults.{pair_fault_of}
 use Rattle.network.specs.Network.{Row, empty, Net, set_at, with_row}
 use Rattle.network.proofs.FaultLaws.{pair_same, pair_free}
 use Rattle.network.specs.Round.{choice, renew_to, renew}
-use Rattle.network.specs.Words.{report_of, cost_of, reports, costs_of, ChoiceAnswer, chosen, words_fault, choose_of, row_means, choice_means}
+use Rattle.network.specs.Words.{report_of, cost_of, reports, costs_of, ChoiceAnswer, chosen, words_fault, choose_of, route_means, choice_means}
 use Rattle.std.specs.Prelude.{Option, Some, None, Result, Ok, Err, unwrap_or}
 use Rattle.std.specs.Result.{result_unwrap_or}
 use Rattle.network.specs.declared.Fault.{Fault}
@@ -102,28 +102,28 @@ module _ (xs : List ℕ) (size : length xs ≡ word_count) (n y : ℕ) (is : n �
 -- ---- the words of a choice are those of the chosen row
 
 -- the words of a network are never refused
-choice_row : (r : Result (Option Route) Fault) (w : Row) → choice_means r ≡ chosen w → row_means (result_unwrap_or r None) ≡ w
-unfolding row_means choice_means
+choice_row : (r : Result (Option Route) Fault) (w : Row) → choice_means r ≡ chosen w → route_means (result_unwrap_or r None) ≡ w
+unfolding route_means choice_means
 choice_row (Ok w) row e = ap (λ (a : ChoiceAnswer). a.row) e
 choice_row (Err f) row e = ap (λ (a : ChoiceAnswer). a.row) e
 
 pub chosen_row : (xs : List ℕ) (n y arcs : ℕ) (r : Result (Option Route) Fault) (o : Option Route) → length xs ≡ word_count → n ≡ (view xs).nodes
     → y < (view xs).nodes → arcs ≡ cond (ltb y 32) (cut (look xs (arc_bits + y)) y) (look xs (arc_bits + y))
     → choice_means r ≡ choose_of arcs (part xs (arc_costs + y * 32) n) (part xs (held_labels + y * 32) n) (part xs (held_lists + y * 32) n) y → o ≡ result_unwrap_or r None
-    → row_means o ≡ new_row (view xs) y
-chosen_row xs n y arcs r o size is below bits e q = ap row_means q ∙ choice_row r _ (e ∙ choose_words xs size n y is below arcs bits)
+    → route_means o ≡ new_row (view xs) y
+chosen_row xs n y arcs r o size is below bits e q = ap route_means q ∙ choice_row r _ (e ∙ choose_words xs size n y is below arcs bits)
 
 -- no route is words of 0
-route_words : (x : Net) (y : ℕ) (r : Option Route) (w : Route) → w ≡ unwrap_or r (record { label = 0; predecessor = 0; list = 0 }) → row_means r ≡ new_row x y
+route_words : (x : Net) (y : ℕ) (r : Option Route) (w : Route) → w ≡ unwrap_or r (record { label = 0; predecessor = 0; list = 0 }) → route_means r ≡ new_row x y
     → row_of w.label w.predecessor w.list ≡ new_row x y
-unfolding row_of row_means
+unfolding row_of route_means
 route_words x y None w is e = rw is e
 route_words x y (Some v) w is e =
     let k = came x.nodes (λ s. x.cost s y) (λ s. x.held s y) y v.label v.predecessor v.list (sym e) in
     rw (is, ne_eqb v.list 0 (λ z. put_some k.offered.list y (sym k.list ∙ z))) e
 
 pub stored_row : (xs : List ℕ) (y : ℕ) (r : Option Route) (w : Route) → length xs ≡ word_count → y < (view xs).nodes → y ≢ (view xs).origin
-    → w ≡ unwrap_or r (record { label = 0; predecessor = 0; list = 0 }) → row_means r ≡ new_row (view xs) y
+    → w ≡ unwrap_or r (record { label = 0; predecessor = 0; list = 0 }) → route_means r ≡ new_row (view xs) y
     → view (set (set (set xs (row_labels + y) w.label) (row_predecessors + y) w.predecessor) (row_lists + y) w.list)
     ≡ with_row (view xs) y (new_row (view xs) y)
 stored_row xs y r w size below relay is e =

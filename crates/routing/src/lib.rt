@@ -10,7 +10,7 @@ ghost use Rattle.std.specs.Prelude.{◌≡◌, ◌≢◌, true, cond, ℕ, ◌<�
 ghost use Rattle.network.specs.Answered.{answered};
 ghost use Rattle.network.specs.Network.{with_row};
 ghost use Rattle.network.specs.Round.{renew, round, every_arc, round_of, full_round_of};
-ghost use Rattle.network.specs.Words.{row_means};
+ghost use Rattle.network.specs.Words.{route_means};
 ghost use Rattle.network.specs.Arcs.{arcs_to};
 ghost use Rattle.memory.specs.Layout.{word_count, view};
 ghost use Rattle.memory.specs.Answers.{Leaves};
@@ -141,7 +141,7 @@ fn hear_marks(net: &mut Network, marks: Option<&[u32]>)
 #[tactic(auto, using(memory::proofs::Laws::few))]
 fn choose_row(net: &Network, receiver: usize) -> Option<Route>
     requires node { receiver < (view net.now).nodes }
-    ensures { row_means result ≡ new_row (view net.now) receiver }
+    ensures { route_means result ≡ new_row (view net.now) receiver }
 {
     let n = memory::nodes(net) as usize;
     let arcs = ancestors::left_out(net[ARCS + receiver], receiver as u32);

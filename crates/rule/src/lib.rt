@@ -9,7 +9,7 @@
 ghost use Rattle.std.specs.Prelude.{◌≡◌, ◌||◌, ◌+◌, ◌<◌, ◌≤◌, length};
 ghost use Rattle.ancestors.specs.Ancestors.{has};
 ghost use Rattle.network.specs.Faults.{max_nodes, max_label};
-ghost use Rattle.network.specs.Words.{cost_of, offer_below, row_means, choose_of, choice_means};
+ghost use Rattle.network.specs.Words.{cost_of, offer_below, route_means, choose_of, choice_means};
 
 use network::{Fault, Route};
 
@@ -167,7 +167,7 @@ impl<'a> Senders<'a> {
 
     // The row of the least offer.
     fn least_offer(&self) -> Option<Route>
-        ensures { row_means result ≡ row_chosen self.now }
+        ensures { route_means result ≡ row_chosen self.now }
     {
         let kept = self.pass_all();
         let most = kept.most as u32;
