@@ -6,7 +6,7 @@
 // Senders are indices, for which std has no `From<u32>`; a cast to 32 bits is of a number that fits, as the check shows.
 #![tactic(auto)]
 
-ghost use Rattle.std.specs.Prelude.{◌≡◌, ◌||◌, ◌+◌, ◌<◌, ◌≤◌, length};
+ghost use Rattle.std.specs.Prelude.{◌≡◌, true, ◌||◌, ◌+◌, ◌<◌, ◌≤◌, length};
 ghost use Rattle.ancestors.specs.Ancestors.{has};
 ghost use Rattle.network.specs.Faults.{max_nodes, max_label};
 ghost use Rattle.network.specs.Words.{cost_of, offer_below, route_means, choose_of, choice_means};
@@ -64,9 +64,11 @@ struct Senders<'a> {
 impl<'a> Senders<'a> {
     ghost use Rattle.rule.specs.Passed.{count_of, offers, row_chosen, Passed, Wins};
 
-    // A sender's offer, if it is at most a bound. The sum is tested first: where it is too large neither the list nor the arc's bit need be read.
-    fn offer_most(&self, s: usize, most: u32) -> Option<u32>
+    // A sender's offer, if it is at most a bound. The sum is tested first: where it is too large neither the list nor the arc's bit need be read, and the
+    // bit at no time where the arc is known to be there.
+    fn offer_most(&self, s: usize, most: u32, known: bool) -> Option<u32>
         requires s_in_bounds { s < count_of self.now }
+        requires known_has { known ≡ true → has self.now.arcs s ≡ true }
         requires most_le_max_label { most ≤ max_label }
         ensures { result ≡ offer_below (most + 1) (offers self.now s) }
     {
@@ -81,7 +83,7 @@ impl<'a> Senders<'a> {
         if ancestors::listed(list, self.receiver) {
             return None;
         }
-        if present(self.arcs, s as u32) {
+        if known || present(self.arcs, s as u32) {
             return Some(less as u32 + 1);
         }
         None
@@ -100,7 +102,7 @@ impl<'a> Senders<'a> {
         let least = kept.most as u32 + 1;
         let mut fewest = ancestors::count_nodes(self.lists[from]);
         for s in kept.from + 1..kept.last + 1 {
-            let Some(_) = self.offer_most(s, least) else {
+            let Some(_) = self.offer_most(s, least, false) else {
                 continue;
             };
             let nodes = ancestors::count_nodes(self.lists[s]);
@@ -113,9 +115,10 @@ impl<'a> Senders<'a> {
         from
     }
 
-    // Passes one sender. Sums are compared less one.
-    fn pass_sender(&self, s: usize, kept: Kept) -> Kept
+    // Passes one sender, whose arc may be known to be there. Sums are compared less one.
+    fn pass_sender(&self, s: usize, kept: Kept, known: bool) -> Kept
         requires s_in_bounds { s < count_of self.now }
+        requires known_has { known ≡ true → has self.now.arcs s ≡ true }
         requires passed { Passed self.now s kept }
         ensures { Passed self.now (s + 1) result }
     {
@@ -130,7 +133,7 @@ impl<'a> Senders<'a> {
             }
             return kept;
         }
-        let Some(sum) = self.offer_most(s, kept.most as u32) else {
+        let Some(sum) = self.offer_most(s, kept.most as u32, known) else {
             return kept;
         };
         Kept {
@@ -155,12 +158,12 @@ impl<'a> Senders<'a> {
         let pairs = self.arcs & (self.arcs >> 1);
         if FEW < n && pairs & (pairs >> 1) != 0 {
             for s in 0..n {
-                kept = self.pass_sender(s, kept);
+                kept = self.pass_sender(s, kept, false);
             }
             return kept;
         }
         for s in ancestors::nodes_of(ancestors::below(self.arcs, n as u32)) {
-            kept = self.pass_sender(s as usize, kept);
+            kept = self.pass_sender(s as usize, kept, true);
         }
         kept
     }
