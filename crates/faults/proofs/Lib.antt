@@ -1,2 +1,2 @@
 -- What the leaf functions compute: the bits of what is in range.
-mod Range
+pub mod Range

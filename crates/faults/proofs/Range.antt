@@ -25,7 +25,7 @@ has_all : (s : ℕ) → s < 32 → has 4294967295 s ≡ true
 has_all s h = ap (λ l. has l s) all_bits ∙ has_those (λ s. true) 32 s ∙ rw (lt-ltb s 32 h)
 
 -- those below n
-has_below : (n s : ℕ) → s < 32 → has (4294967295 % 2 ^ n) s ≡ ltb s n
+pub has_below : (n s : ℕ) → s < 32 → has (4294967295 % 2 ^ n) s ≡ ltb s n
 has_below n s h = has_low 4294967295 n s ∙ rw (has_all s h) (go (ltb s n))
   where
     go : (b : _) → (b && true) ≡ b

@@ -25,7 +25,7 @@ fn get8(b: &[u8], i: usize) -> u32
     b.get(i).map_or(0, |x| u32::from(*x))
 }
 
-// The next two put halves together; `from_be_bytes` would want all bytes to be there.
+// Halves are put together, and a word at once where all its bytes are there, which `from_be_bytes` wants.
 
 // The number in the two bytes from i on.
 #[tactic(auto, unfolding(records::specs::Numbers::num16, records::specs::Numbers::num8))]
@@ -47,6 +47,9 @@ pub fn word(b: &[u8], i: usize) -> u32
 {
     if b.len() <= i {
         return 0;
+    }
+    if let Some(bytes) = b[i..].first_chunk::<4>() {
+        return u32::from_be_bytes(*bytes);
     }
     let high = get16(b, i);
     let low = get16(b, i + 2);

@@ -11,7 +11,7 @@ ghost use Rattle.network.specs.Answered.{answered};
 ghost use Rattle.network.specs.Network.{with_row};
 ghost use Rattle.network.specs.Round.{renew, round, every_arc, round_of, full_round_of};
 ghost use Rattle.network.specs.Words.{route_means};
-ghost use Rattle.network.specs.Arcs.{arcs_to};
+ghost use Rattle.network.specs.Arcs.{arcs_to, senders};
 ghost use Rattle.memory.specs.Layout.{word_count, view};
 ghost use Rattle.memory.specs.Answers.{Leaves};
 ghost use Rattle.routing.specs.Inner.{by_words, Primed, hear_arcs, given, new_row, one_mark, row_marks, outside_rows};
@@ -101,11 +101,14 @@ fn hear_fours(net: &mut Network, receiver: Node, word: u32)
     }
 }
 
-// Goes from mark to mark where no two beside each other are marked, and else through all senders, which takes less time for each.
+// Among how many nodes it takes no longer to go from mark to mark, whatever marks there are.
+const FEW: u32 = 4;
+
+// Goes from mark to mark among few nodes and where no two beside each other are marked, and else through all senders, which takes less time for each.
 fn hear_row(net: &mut Network, receiver: Node, word: u32)
     ensures { by_words net.new ≡ hear_arcs (row_marks receiver.index word 32) (by_words net.old) }
 {
-    if word & (word >> 1) == 0 {
+    if memory::nodes(net) <= FEW || word & (word >> 1) == 0 {
         hear_few(net, receiver, word);
     } else {
         hear_fours(net, receiver, word);
@@ -203,6 +206,19 @@ fn advance(net: &mut Network, marks: Option<&[u32]>)
 
 // ---- refusals
 
+// What is in range for one of 32 nodes, as `faults::senders` has it, by a bit: where two numbers are compared, a loop over all nodes compares 64 bits of each
+// and takes a third longer.
+fn in_range(n: u32, receiver: u32) -> u32
+    requires { receiver < 32 }
+    ensures { result ≡ senders n receiver }
+{
+    let all = ancestors::below(u32::MAX, n);
+    if ancestors::listed(all, receiver) {
+        return ancestors::left_out(all, receiver);
+    }
+    0
+}
+
 // Whether a mark of a receiver is not in its word of the words given, or out of range. All are passed without a branch, as vectors: where a closure
 // gave each word, the compiler made none.
 #[tactic(auto, using(crate::proofs::Marks::outside_none, crate::proofs::Marks::outside_next))]
@@ -213,7 +229,7 @@ fn any_outside(n: u32, marks: &[u32], words: &[u32]) -> bool
 {
     let mut found = false;
     for r in 0u32..32 {
-        let word = words[r as usize] & faults::senders(n, r);
+        let word = words[r as usize] & in_range(n, r);
         found = rule::or(found, ancestors::outside(marks[r as usize], word));
     }
     found
