@@ -5,7 +5,7 @@
 // `as u64` is from a `usize`, for which std has no `From`.
 #![tactic(auto)]
 
-ghost use Rattle.std.specs.Prelude.{◌≡◌, ◌≤◌, ◌+◌, ◌∷◌, [], length, get_or};
+ghost use Rattle.std.specs.Prelude.{◌≡◌, ◌≤◌, ◌+◌, ◌∷◌, [], length};
 ghost use Rattle.std.specs.Result.{result_unwrap_or};
 ghost use Rattle.network.specs.Answered.{fault_number, answered};
 ghost use Rattle.network.specs.Network.{fresh_of};
@@ -188,13 +188,6 @@ pub extern "C" fn bench_write_messages(
 // The words of what reading messages answers.
 const READ_WORDS: usize = network::NODES + 2;
 
-// A node's metric; 0 where there are fewer.
-fn metric_at(metrics: &[u8], y: usize) -> u64
-    ensures { result ≡ get_or metrics.now y 0 }
-{
-    metrics.get(y).map_or(0, |metric| u64::from(*metric))
-}
-
 // Number 0, how many metrics there are, and the metrics in the places of 32 nodes.
 fn put_metrics(metrics: &[u8], out: &mut [u64])
     requires few { length metrics.now ≤ max_nodes }
@@ -203,8 +196,11 @@ fn put_metrics(metrics: &[u8], out: &mut [u64])
 {
     out[0] = 0;
     out[1] = metrics.len() as u64;
-    for y in 0..network::NODES {
-        out[y + 2] = metric_at(metrics, y);
+    for y in 0..metrics.len() {
+        out[y + 2] = u64::from(metrics[y]);
+    }
+    for y in metrics.len()..network::NODES {
+        out[y + 2] = 0;
     }
 }
 
