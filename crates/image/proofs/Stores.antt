@@ -18,13 +18,12 @@ module _ (a b c : ℕ) where
   pub stored_three : (e : List ℕ) → 3 ≤ length e → Wrote (a ∷ b ∷ c ∷ []) e (set (set (set e 0 a) 1 b) 2 c) 3
   stored_three e h = three (front 3 e h)
 
--- a number of four bytes stored from a place on
+-- a number of four bytes stored from a place on, and one of two
 abbrev put : ℕ → ℕ → List ℕ → List ℕ
 put at x e = take at e ++ (be32 x ++ drop (at + 4) e)
 
--- one of two bytes at the end of an arc's record
-abbrev put16 : ℕ → List ℕ → List ℕ
-put16 x e = take 3 e ++ (be16 x ++ drop 2 (drop 3 e))
+abbrev put2 : ℕ → ℕ → List ℕ → List ℕ
+put2 at x e = take at e ++ (be16 x ++ drop (at + 2) e)
 
 -- in two bytes by its low sixteen bits
 pub low_bytes : (x : ℕ) → (x % 65536) / 256 % 256 ∷ (x % 65536) % 256 ∷ [] ≡ be16 x
@@ -34,15 +33,23 @@ low_bytes x =
     let low : (x % 65536) % 256 ≡ x % 256 = omega arith in
     rw (high, low)
 
--- five bytes, of which the last two are a number
+-- kind and node as one number of two bytes
+kind_and_node : (a : ℕ) → be16 (512 + a % 256) ≡ (2 ∷ a % 256 ∷ [])
+unfolding be16 be8
+kind_and_node a =
+    let kind : (512 + a % 256) / 256 % 256 ≡ 2 = omega arith in
+    let node : (512 + a % 256) % 256 ≡ a % 256 = omega arith in
+    rw (kind, node)
+
+-- five bytes, of which the first two and the last two are numbers
 module _ (a b c : ℕ) where
-  five : {e : List ℕ} → Front 5 e → Wrote (arc_record_of a b c) e (put16 c (set (set (set e 0 2) 1 (a % 256)) 2 (b % 256))) 5
+  five : {e : List ℕ} → Front 5 e → Wrote (arc_record_of a b c) e (put2 3 c (set (2 ∷ a % 256 ∷ drop 2 e) 2 (b % 256))) 5
   unfolding arc_record_of be16 be8
   five (more (more (more (more (more none))))) = record { used = refl; left = refl }
 
-  pub stored_arc : (e : List ℕ) → record_length 2 ≤ length e → Wrote (arc_record_of a b c) e (put16 c (set (set (set e 0 2) 1 (a % 256)) 2 (b % 256))) 5
+  pub stored_arc : (e : List ℕ) → record_length 2 ≤ length e → Wrote (arc_record_of a b c) e (put2 3 c (set (put2 0 (512 + a % 256) e) 2 (b % 256))) 5
   unfolding body_length
-  stored_arc e h = five (front 5 e h)
+  stored_arc e h = rw (kind_and_node a) (five (front 5 e h))
 
 -- eleven bytes, of which eight are numbers of four
 module _ (a b c d : ℕ) where

@@ -11,7 +11,7 @@ ghost use Rattle.network.specs.Faults.{max_nodes};
 ghost use Rattle.network.specs.Writing.{Writes};
 ghost use Rattle.network.specs.Arcs.{arcs_to, arc_words_of};
 ghost use Rattle.memory.specs.Layout.{view, held_list_word_of};
-ghost use Rattle.records.specs.Numbers.{be32};
+ghost use Rattle.records.specs.Numbers.{be16, be32};
 ghost use Rattle.records.specs.Records.{record_length, end_record, header_record_of, arc_record_of, row_record_of, report_record_of};
 ghost use Rattle.records.specs.Image.{each, image, image_of};
 ghost use Rattle.filling.specs.Filling.{Wrote};
@@ -71,24 +71,30 @@ fn put_header(out: &mut [u8], n: u32, origin: u32) -> usize
     HEADER_LENGTH
 }
 
-// The record of an arc.
-fn put_arc(out: &mut [u8], pair: Pair, cost: u32) -> usize
-    requires { record_length 2 ≤ length out.old }
-    ensures { Wrote (arc_record_of pair.sender pair.receiver cost) out.old out.new result }
+// A number in two bytes, and one in four, from a place on: a place inside a record, and not how far an output is filled.
+fn put16(out: &mut [u8], at: usize, x: u32)
+    requires { at + 2 ≤ length out.old }
+    ensures { out.new ≡ take at out.old ++ (be16 x ++ drop (at + 2) out.old) }
 {
-    out[0] = ARC;
-    out[1] = (pair.sender % 256) as u8;
-    out[2] = (pair.receiver % 256) as u8;
-    out[3..5].copy_from_slice(&((cost % 65536) as u16).to_be_bytes());
-    ARC_LENGTH
+    out[at..at + 2].copy_from_slice(&((x % 65536) as u16).to_be_bytes());
 }
 
-// A number in four bytes from a place on: a place inside a record, and not how far an output is filled.
 fn put32(out: &mut [u8], at: usize, x: u32)
     requires { at + 4 ≤ length out.old }
     ensures { out.new ≡ take at out.old ++ (be32 x ++ drop (at + 4) out.old) }
 {
     out[at..at + 4].copy_from_slice(&x.to_be_bytes());
+}
+
+// The record of an arc. Kind and sender are one number, stored at once: they stay the same for all receivers of a sender.
+fn put_arc(out: &mut [u8], pair: Pair, cost: u32) -> usize
+    requires { record_length 2 ≤ length out.old }
+    ensures { Wrote (arc_record_of pair.sender pair.receiver cost) out.old out.new result }
+{
+    put16(out, 0, u32::from(ARC) * 256 + pair.sender % 256);
+    out[2] = (pair.receiver % 256) as u8;
+    put16(out, 3, cost);
+    ARC_LENGTH
 }
 
 // The record of a row.

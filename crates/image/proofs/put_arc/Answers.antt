@@ -1,8 +1,7 @@
--- `image::put_arc` meets its contract: five bytes, of which two are a number.
+-- `image::put_arc` meets its contract: five bytes, of which two and two are numbers.
 -- Assumes nothing.
-use mathlib.Core.Path.{◌∙◌}
-use Rattle.image.proofs.Stores.{low_bytes, stored_arc}
+use Rattle.image.proofs.Stores.{stored_arc}
 use Rattle.image.proofs.put_arc.Goals as goal
 
 pub returns : goal.returns
-returns c = rw (c.copy_from_slice.ensures.after ∙ c.to_be_bytes.ensures ∙ low_bytes c.args.cost) (stored_arc _ _ _ c.args.out.now c.requires)
+returns c = rw (c.put16-2.ensures, c.put16.ensures, c.from.ensures) (stored_arc _ _ _ c.args.out.now c.requires)
