@@ -11,8 +11,6 @@ use lib.Seq.{drop-cons, drop-drop}
 use borrow.Rule.Slice.PartMut.{put_mid}
 use Rattle.std.specs.Int.{to_be_bytes, w32}
 use Rattle.std.proofs.lemmas.Bool.Decides.{nat_tests}
-use Rattle.std.specs.Prelude.{Some, None, Result, Ok, Err}
-use Rattle.std.specs.Result.{OkIff, result_ok}
 use Rattle.ancestors.specs.Ancestors.{hops}
 use Rattle.network.specs.Network.{Row, none, root, via}
 use Rattle.records.specs.Numbers.{Bytes, be8, be16, be32, num8, num16, num32}
@@ -41,18 +39,6 @@ unfolding metric metric_fault
 metric_right none = refl
 metric_right (root l) = hops_right (hops l)
 metric_right (via d p l) = hops_right (hops l)
-
--- a number as a byte, where it is below 256
-module _ {E : Type 0} (w : ℕ) where
-  pub byte_some : (r : Result ℕ E) {m : ℕ} → OkIff r (w < 256) w → Some m ≡ result_ok r → m ≡ w
-  byte_some (Ok x) {m} h e =
-      let s : m ≡ x = cc in
-      s ∙ h.1
-  byte_some (Err d) h e = cc
-
-  pub byte_none : (r : Result ℕ E) → OkIff r (w < 256) w → None ≡ result_ok r → 256 ≤ w
-  byte_none (Ok x) h e = cc
-  byte_none (Err d) h e = omega arith
 
 -- ---- numbers in their places
 

@@ -131,9 +131,10 @@ pub fn read_entry(part: &[u8], a: u32) -> Option<u8>
     {
         return None;
     }
-    let m = u8::try_from(reading::word(part, 16)).ok()?;
-    if m == 0 || INFINITY < m {
+    let m = reading::word(part, 16);
+    if m == 0 || u32::from(INFINITY) < m {
         return None;
     }
-    Some(m)
+    // At most 16, so that nothing is cut off.
+    Some(m as u8)
 }
