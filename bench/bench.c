@@ -1,8 +1,9 @@
 /*
- * Microseconds to a call, the proved one beside the plain C one: rounds, the test of marks, opening, image writing, runs, the C call, and RIP messages
- * written and read; and how a round grows with the number of nodes. Each line measures the two sides in turn, a few dozen microseconds each, and takes
- * the least of many such turns, so that other load meets both alike and leaves some turns alone. Before and after each line both sides are held to the
- * same network, arcs and answers, and at the end to the same answers for damaged images and messages; the exit status is not 0 where they differ.
+ * Microseconds to a call, the proved one and the plain C one: rounds, the test of marks, opening, image writing, runs, the C call, and RIP messages
+ * written and read. A line is name, nodes, proved and plain C, with | between; bench/table makes tables of them. Each line measures the two sides in turn,
+ * a few dozen microseconds each, and takes the least of many such turns, so that other load meets both alike and leaves some turns alone. Before and after
+ * each line both sides are held to the same network, arcs and answers, and at the end to the same answers for damaged images and messages; the exit status
+ * is not 0 where they differ.
  */
 #include <stdio.h>
 #include <string.h>
@@ -22,8 +23,8 @@ extern void bench_read_messages(const uint8_t *in, uint64_t size, uint32_t base,
 
 #define NODES 32
 #define WORDS 3232
-#define TURNS 1000
-#define LONG_TURNS 27
+#define TURNS 500
+#define LONG_TURNS 15
 #define ROUNDS 1000000
 #define SETS 16
 /* messages are written so far into a page that no byte of them has the place in its page of a word of the rows that are read: a read waits for such a
@@ -81,12 +82,7 @@ static struct times measure(work proved, work other, int turns, int count)
 
 static void print(const char *name, uint32_t n, struct times t)
 {
-    printf("| %-27s | %5u | %10.3f | %10.3f | %5.2f |\n", name, n, t.proved, t.plain, t.proved / t.plain);
-}
-
-static void title(const char *name)
-{
-    printf("| %-27s | nodes |     proved |    plain C | ratio |\n|---|---|---|---|---|\n", name);
+    printf("%s|%u|%.4f|%.4f\n", name, n, t.proved, t.plain);
 }
 
 static void held(int right, const char *what)
@@ -217,28 +213,13 @@ static struct times rounds(uint32_t n, const struct kind *kind)
     return t;
 }
 
+/* the two whose growth is told have more numbers of nodes */
 static void round_lines(void)
 {
     for (unsigned k = 0; k < sizeof kinds / sizeof *kinds; k++)
-        for (uint32_t n = 4; n <= NODES; n *= 2)
-            print(kinds[k].name, n, rounds(n, &kinds[k]));
-}
-
-/* how the cost of a dense round grows */
-static void growth_lines(void)
-{
-    static const unsigned shown[] = {0, 2};
-    printf("\n| growth of a dense round     | nodes |       arcs | ns per arc | times 4 nodes |\n|---|---|---|---|---|\n");
-    for (unsigned i = 0; i < sizeof shown / sizeof *shown; i++) {
-        const struct kind *k = &kinds[shown[i]];
-        double first = 0;
-        for (uint32_t n = 4; n <= NODES; n += 4) {
-            double t = rounds(n, k).proved;
-            uint32_t arcs = n * (n - 1);
-            first = n == 4 ? t : first;
-            printf("| %-27s | %5u | %10u | %10.2f | %13.1f |\n", k->name, n, arcs, 1000 * t / arcs, t / first);
-        }
-    }
+        for (uint32_t n = 4; n <= NODES; n += 4)
+            if (k == 0 || k == 2 || (n & (n - 1)) == 0)
+                print(kinds[k].name, n, rounds(n, &kinds[k]));
 }
 
 /* ---- the test of marks by itself: every arc is marked, and the last pair, which has none; a round would change the network, as it is fresh */
@@ -524,12 +505,10 @@ static void damaged_messages(void)
 
 int main(void)
 {
-    title("microseconds");
     round_lines();
     refused_lines();
     file_lines();
     message_lines();
-    growth_lines();
     damaged_images();
     damaged_messages();
     return bad;

@@ -180,3 +180,16 @@ added_front h = record { used = h.place ∙ zero-add _; left = h.left }
 
 pub front_added : {w e x : List ℕ} {b : ℕ} → Wrote w e x b → Added w e x 0 b
 front_added h = record { within = omega arith; place = h.used ∙ sym (zero-add _); left = h.left }
+
+-- ---- an output that is split
+
+-- bytes that fill the first part, and others at the front of the second
+pub wrote_split : {w v e f b x y : List ℕ} {a r : ℕ} → e ≡ f ++ b → Wrote w f x a → length w ≡ length f → Wrote v b y r → Wrote (w ++ v) e (x ++ y) (a + r)
+wrote_split {w} {v} {e} {f} {b} {x} {y} {a} {r} p h l g =
+    let n : length f ≡ a = omega (arith, h.used, l) in
+    let all : x ≡ w = h.left ∙ rw (drop_of_length-le f {i = a} (omega arith), append-nil w) in
+    let d : drop (a + r) e ≡ drop r b = sym (drop-drop r a e) ∙ ap (drop r) (ap (drop a) p ∙ drop_at f b a n) in
+    record {
+      used = omega (arith, h.used, g.used, length-append w v);
+      left = rw (all, d, g.left) (simp append_assoc);
+    }

@@ -14,7 +14,7 @@ use Rattle.records.specs.Image.{each, arc_bytes, row_bytes, report_bytes, by_nod
 use Rattle.records.proofs.Each.{each_same, each_split, each_none}
 use Rattle.records.proofs.Sizes.{end_long, header_long, each_gap, pairs_gap}
 use Rattle.filling.specs.Filling.{Wrote}
-use Rattle.image.specs.Lines.{arc_at, row_at, report_at}
+use Rattle.image.specs.Lines.{arc_at, row_at, report_at, arcs_of, rows_of, reports_of, rest_of}
 use Rattle.image.specs.Measured.{sum, receiver_bytes, most_bytes_of}
 use Rattle.image.proofs.Sums.{sum_same, sum_add, sum_swap}
 use Rattle.image.proofs.Lengths.{arc_at_most, row_at_most, report_at_most, each_sum}
@@ -52,10 +52,15 @@ module _ (n : ℕ) (l : ℕ → ℕ → List ℕ) (s r : ℕ) where
 node_none : (n y : ℕ) (l : List ℕ) → n ≤ y → cond (node_fault n y) [] l ≡ []
 node_none n y l h = rw (node_bad n y h)
 
+-- the length of what follows the first record
+pub rest_long : (x : Net) → length (rest_of x) ≡ length (arcs_of x) + (length (rows_of x) + length (reports_of x) + record_length 0)
+unfolding rest_of body_length
+rest_long x = simp (length-append, end_long)
+
 module _ (x : Net) (n o : ℕ) (nodes : n ≡ x.nodes) (origin : o ≡ x.origin) (few : x.nodes ≤ max_nodes) where
-  -- the records of the nodes below n, each after those before it
-  pub image_parts : image x ≡ (((header_record_of n o ++ each (λ s. each (arc_at x s) 0 n) 0 n) ++ each (row_at x) 0 n) ++ each (λ s. each (report_at x s) 0 n) 0 n) ++ end_record
-  unfolding image by_pair by_node arc_at row_at report_at
+  -- the first record, and the others by the nodes below n
+  pub image_parts : image x ≡ header_record_of n o ++ rest_of x
+  unfolding image by_pair by_node arc_at row_at report_at rest_of
   image_parts =
       let m = x.nodes in
       let arc : ℕ → ℕ → List ℕ = λ s r. arc_bytes s r (x.cost s r) in
@@ -66,9 +71,9 @@ module _ (x : Net) (n o : ℕ) (nodes : n ≡ x.nodes) (origin : o ≡ x.origin)
       rw (nodes, origin, a, b, c) (simp append_assoc)
 
   -- their lengths
-  pub image_long : length (image x) ≡ record_length 1 + length (each (λ s. each (arc_at x s) 0 n) 0 n) + length (each (row_at x) 0 n) + length (each (λ s. each (report_at x s) 0 n) 0 n) + record_length 0
+  pub image_long : length (image x) ≡ record_length 1 + length (rest_of x)
   unfolding body_length
-  image_long = ap length image_parts ∙ simp (length-append, header_long, end_long)
+  image_long = ap length image_parts ∙ simp (length-append, header_long)
 
   -- by receiver
   pub image_counted : length (image x) ≡ record_length 1 + record_length 0 + sum (receiver_bytes x) n
@@ -95,12 +100,18 @@ module _ (x : Net) (n o : ℕ) (nodes : n ≡ x.nodes) (origin : o ≡ x.origin)
   image_by_nodes l h e =
       let m = x.nodes in
       let free = node_free m o (omega arith) in
-      let a : length (each (λ s. each (arc_at x s) 0 n) 0 n) ≤ n * (n - 1) * record_length 2 = pairs_gap (arc_at x) (record_length 2) n
-      (λ s. rw (pair_same m s)) (arc_at_most x) in
-      let b : length (each (row_at x) 0 n) ≤ record_length 3 * (n - 1) = each_gap (row_at x) (record_length 3) n o h (rw (free, e)) (row_at_most x) in
-      let c : length (each (λ s. each (report_at x s) 0 n) 0 n) ≤ n * (n - 1) * record_length 4 = pairs_gap (report_at x) (record_length 4) n
-      (λ s. rw (pair_same m s)) (report_at_most x) in
-      omega (arith, image_long, a, b, c)
+      let a : length (arcs_of x) ≤ m * (m - 1) * record_length 2 = pairs_gap (arc_at x) (record_length 2) m (λ s. rw (pair_same m s)) (arc_at_most x) in
+      let b : length (rows_of x) ≤ record_length 3 * (m - 1) = each_gap (row_at x) (record_length 3) m o (omega arith) (rw (free, e)) (row_at_most x) in
+      let c : length (reports_of x) ≤ m * (m - 1) * record_length 4 = pairs_gap (report_at x) (record_length 4) m (λ s. rw (pair_same m s)) (report_at_most x) in
+      rw nodes (omega (arith, image_long, rest_long x, a, b, c))
+
+-- the bytes of the arcs, by receiver
+pub arcs_long : (x : Net) → x.nodes ≤ max_nodes → length (arcs_of x) ≡ sum (λ r. sum (λ s. length (arc_at x s r)) max_nodes) x.nodes
+unfolding arc_at
+arcs_long x few =
+    let m = x.nodes in
+    let arc : ℕ → ℕ → List ℕ = λ s r. arc_bytes s r (x.cost s r) in
+    ap length (sym (pairs_cut (arc_at x) m max_nodes few (sender_none m arc) (receiver_none m arc))) ∙ pairs_long (arc_at x) m max_nodes few (receiver_none m arc)
 
 -- where the first record ends
 pub header_end : (n o : ℕ) {a : ℕ} {e y : List ℕ} → Wrote (header_record_of n o) e y a → a ≡ record_length 1

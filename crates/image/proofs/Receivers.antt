@@ -1,6 +1,6 @@
 -- The bytes of an image by receiver, counted in words, and at most how many they are.
 -- Assumes nothing.
-use mathlib.Core.Path.{◌≡◌, refl, ap₂, ◌∙◌}
+use mathlib.Core.Path.{◌≡◌, refl, sym, ap₂, ◌∙◌}
 use mathlib.Core.List.{List}
 use Prim.Native.Nat.{ℕ, ◌+◌, ◌*◌, ◌<◌, ◌≤◌}
 use native.Mathlib.Omega.{arith}
@@ -15,11 +15,13 @@ use Rattle.network.specs.Network.{Net}
 use Rattle.network.specs.Arcs.{arcs_to}
 use Rattle.memory.specs.Layout.{view, held_list_word_of}
 use Rattle.records.specs.Records.{body_length, record_length}
-use Rattle.image.specs.Lines.{arc_at, row_at, report_at}
-use Rattle.image.specs.Measured.{holds, receiver_bytes}
-use Rattle.image.proofs.Sums.{sum_most, sum_count, count_next}
+use Rattle.image.specs.Lines.{arc_at, row_at, report_at, arcs_of}
+use Rattle.image.specs.Measured.{sum, holds, receiver_bytes}
+use Rattle.image.proofs.Sums.{sum_same, sum_most, sum_count, count_next}
 use Rattle.image.proofs.Lengths.{arc_at_most, row_at_most, report_at_most}
+use Rattle.memory.proofs.Laws.{few}
 use Rattle.image.proofs.Reading.{arc_counts, report_counts}
+use Rattle.image.proofs.Parting.{arcs_long}
 
 -- a test as the code counts it
 one_byte : (b : Bool) → bool_byte b ≡ one b
@@ -64,3 +66,20 @@ receiver_most x r =
     let a = sum_most (λ s. length (arc_at x s r)) (record_length 2) max_nodes (λ s. arc_at_most x s r) in
     let b = sum_most (λ s. length (report_at x s r)) (record_length 4) max_nodes (λ s. report_at_most x s r) in
     omega (arith, a, b, row_at_most x r)
+
+-- ---- the arcs to each receiver, counted
+
+-- the bytes of those to r
+abbrev pub arcs_counted : List ℕ → ℕ → ℕ
+arcs_counted xs r = count (has (arcs_to (view xs) r)) max_nodes * record_length 2
+
+pub arcs_some : (xs : List ℕ) (r : ℕ) → arcs_counted xs r ≤ max_nodes * record_length 2
+unfolding body_length
+arcs_some xs r = omega (arith, count_le (has (arcs_to (view xs) r)) max_nodes)
+
+-- of all
+pub arcs_all : (xs : List ℕ) → sum (arcs_counted xs) (view xs).nodes ≡ length (arcs_of (view xs))
+arcs_all xs =
+    sum_same (arcs_counted xs) (λ r. sum (λ s. length (arc_at (view xs) s r)) max_nodes) (view xs).nodes
+    (λ r. sym (sum_count (λ s. length (arc_at (view xs) s r)) (has (arcs_to (view xs) r)) (record_length 2) max_nodes (λ s. arc_counts xs s r)))
+    ∙ sym (arcs_long (view xs) (few xs))

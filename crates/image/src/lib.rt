@@ -15,8 +15,8 @@ ghost use Rattle.records.specs.Numbers.{be16, be32};
 ghost use Rattle.records.specs.Records.{record_length, end_record, header_record_of, arc_record_of, row_record_of, report_record_of};
 ghost use Rattle.records.specs.Image.{each, image, image_of};
 ghost use Rattle.filling.specs.Filling.{Wrote};
-ghost use Rattle.image.specs.Items.{route_bytes, used, Puts};
-ghost use Rattle.image.specs.Lines.{arc_at, row_at, report_at};
+ghost use Rattle.image.specs.Items.{route_bytes, used};
+ghost use Rattle.image.specs.Lines.{arc_at, row_at, report_at, arcs_of, rows_of, reports_of, rest_of};
 ghost use Rattle.image.specs.Measured.{holds, receiver_bytes, most_bytes_of};
 
 use memory::{Network, RowRead};
@@ -171,11 +171,11 @@ fn write_arc(from: &Source, pair: Pair, out: &mut [u8]) -> Option<usize>
     Some(put_arc(out, pair, memory::cost_word(from.net, pair)))
 }
 
-fn write_row(from: &Source, node: u32, out: &mut [u8]) -> Option<usize>
-    requires { length (row_at (view from.now.net.now) node) ≤ length out.old }
-    ensures { Wrote (row_at (view from.now.net.now) node) out.old out.new (used result) }
+fn write_row(net: &Network, node: u32, out: &mut [u8]) -> Option<usize>
+    requires { length (row_at (view net.now) node) ≤ length out.old }
+    ensures { Wrote (row_at (view net.now) node) out.old out.new (used result) }
 {
-    match relay_route(from.net, node) {
+    match relay_route(net, node) {
         None => None,
         Some(route) => Some(put_row(out, node, route)),
     }
@@ -203,40 +203,98 @@ fn write_report(from: &Source, pair: Pair, out: &mut [u8]) -> Option<usize>
 
 // ---- records, one after another
 
-// Those of a sender to the receivers below n: each is written by a writer that is lent the part not yet filled. A writer is handed both nodes: where its
-// closure holds the sender, the compiler doesn't see that it is below 32, and writing takes up to twice as long.
-fn write_line<F: Fn(Pair, &mut [u8]) -> Option<usize>>(
-    sender: u32,
-    n: u32,
-    out: &mut [u8],
-    write: &F,
-) -> usize
-    ghost record_of: { ℕ → List ℕ }
-    requires writes { Puts (F.pre write.now) (F.post write.now) record_of sender n }
-    requires room { length (each record_of 0 n) ≤ length out.old }
-    ensures { Wrote (each record_of 0 n) out.old out.new result }
+// The rows.
+fn write_rows(net: &Network, out: &mut [u8]) -> usize
+    requires { length (rows_of (view net.now)) ≤ length out.old }
+    ensures { Wrote (rows_of (view net.now)) out.old out.new result }
 {
     let mut at: usize = 0;
-    for receiver in 0..n {
-        if let Some(k) = write(Pair { sender, receiver }, &mut out[at..]) {
+    for node in 0..memory::nodes(net) {
+        if let Some(k) = write_row(net, node, &mut out[at..]) {
             at += k;
         }
     }
     at
 }
 
-// Those of the senders below n.
-fn write_lines<F: Fn(Pair, &mut [u8]) -> Option<usize>>(n: u32, out: &mut [u8], write: &F) -> usize
-    ghost record_of: { ℕ → ℕ → List ℕ }
-    requires writes { (s : ℕ) → s < n → Puts (F.pre write.now) (F.post write.now) (record_of s) s n }
-    requires room { length (each (λ s. each (record_of s) 0 n) 0 n) ≤ length out.old }
-    ensures { Wrote (each (λ s. each (record_of s) 0 n) 0 n) out.old out.new result }
+// How many bytes are used of a part for arcs, and of one for reports.
+#[derive(Clone, Copy)]
+struct Filled {
+    arcs: usize,
+    reports: usize,
+}
+
+// Arcs and reports are written in one pass over the pairs, each into a part of its own: most of the time is spent on going from pair to pair.
+
+// Those from a sender to the n receivers.
+fn write_sender(from: &Source, sender: u32, n: u32, arcs: &mut [u8], reports: &mut [u8]) -> Filled
+    requires sender_bound { sender < n }
+    requires n_value { n ≡ (view from.now.net.now).nodes }
+    requires arcs_room { length (each (arc_at (view from.now.net.now) sender) 0 n) ≤ length arcs.old }
+    requires reports_room { length (each (report_at (view from.now.net.now) sender) 0 n) ≤ length reports.old }
+    ensures arcs { Wrote (each (arc_at (view from.now.net.now) sender) 0 n) arcs.old arcs.new result.arcs }
+    ensures reports { Wrote (each (report_at (view from.now.net.now) sender) 0 n) reports.old reports.new result.reports }
 {
-    let mut at: usize = 0;
-    for sender in 0..n {
-        at += write_line(sender, n, &mut out[at..], write);
+    let mut i: usize = 0;
+    let mut k: usize = 0;
+    for receiver in 0..n {
+        let pair = Pair { sender, receiver };
+        if let Some(used) = write_arc(from, pair, &mut arcs[i..]) {
+            i += used;
+        }
+        if let Some(used) = write_report(from, pair, &mut reports[k..]) {
+            k += used;
+        }
     }
-    at
+    Filled {
+        arcs: i,
+        reports: k,
+    }
+}
+
+// All of them.
+fn write_pairs(from: &Source, arcs: &mut [u8], reports: &mut [u8]) -> Filled
+    requires arcs_room { length (arcs_of (view from.now.net.now)) ≤ length arcs.old }
+    requires reports_room { length (reports_of (view from.now.net.now)) ≤ length reports.old }
+    ensures arcs { Wrote (arcs_of (view from.now.net.now)) arcs.old arcs.new result.arcs }
+    ensures reports { Wrote (reports_of (view from.now.net.now)) reports.old reports.new result.reports }
+{
+    let n = memory::nodes(from.net);
+    let mut i: usize = 0;
+    let mut k: usize = 0;
+    for sender in 0..n {
+        let filled = write_sender(from, sender, n, &mut arcs[i..], &mut reports[k..]);
+        i += filled.arcs;
+        k += filled.reports;
+    }
+    Filled {
+        arcs: i,
+        reports: k,
+    }
+}
+
+// The bytes of the arcs, by their words. An index is a `usize`, for which std has no `From<u32>`.
+fn arcs_length(from: &Source) -> usize
+    ensures { result ≡ length (arcs_of (view from.now.net.now)) }
+{
+    let mut total: usize = 0;
+    for r in 0..memory::nodes(from.net) {
+        total += ancestors::count_nodes(from.arcs[r as usize]) as usize * ARC_LENGTH;
+    }
+    total
+}
+
+// Writes what follows the first record where there is room for it: arcs into the front, and rows, reports and the last record after them.
+fn write_rest(from: &Source, out: &mut [u8]) -> usize
+    requires { length (rest_of (view from.now.net.now)) ≤ length out.old }
+    ensures { Wrote (rest_of (view from.now.net.now)) out.old out.new result }
+{
+    let (arcs, rest) = out.split_at_mut(arcs_length(from));
+    let rows = write_rows(from.net, rest);
+    let filled = write_pairs(from, arcs, &mut rest[rows..]);
+    let end = rows + filled.reports;
+    let after = end + put_end(&mut rest[end..]);
+    filled.arcs + after
 }
 
 // Writes an image where there is room for it.
@@ -244,28 +302,8 @@ fn write_all(from: &Source, out: &mut [u8]) -> usize
     requires { length (image (view from.now.net.now)) ≤ length out.old }
     ensures { Wrote (image (view from.now.net.now)) out.old out.new result }
 {
-    let n = memory::nodes(from.net);
-    let arcs = put_header(out, n, memory::origin(from.net));
-    let rows = arcs
-        + write_lines(
-            n,
-            &mut out[arcs..],
-            &|pair, part| write_arc(from, pair, part),
-        );
-    let reports = rows
-        + write_line(
-            0,
-            n,
-            &mut out[rows..],
-            &|pair, part| write_row(from, pair.receiver, part),
-        );
-    let end = reports
-        + write_lines(
-            n,
-            &mut out[reports..],
-            &|pair, part| write_report(from, pair, part),
-        );
-    end + put_end(&mut out[end..])
+    let rest = put_header(out, memory::nodes(from.net), memory::origin(from.net));
+    rest + write_rest(from, &mut out[rest..])
 }
 
 // ---- lengths; std has no `From<u32>` for `usize`
