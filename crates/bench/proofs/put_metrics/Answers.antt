@@ -22,9 +22,11 @@ loop-y-preserved c =
 pub loop-y-2-preserved : goal.loop-y-2-preserved
 loop-y-2-preserved c =
     let l = c.loop-y-2 in
-    let ms = c.args.metrics.now in
-    (stored_next (places ms) _ l.out l.y _ l.invariant.0 (sym (place_at ms l.y ∙ get_or-eq_default ms 0 l.invariant.1))
-    (omega (arith, c.loop-y-2-test.true, places_long ms c.requires.few)) (simp length-set (omega (arith, c.loop-y-2-test.true, c.requires.out_len))), omega (arith, l.invariant.1))
+    let ms = c.args.metrics.now in (
+      stored_next (places ms) _ l.out l.y _ l.invariant.0 (sym (place_at ms l.y ∙ get_or-eq_default ms 0 l.invariant.1))
+          (omega (arith, c.loop-y-2-test.true, places_long ms c.requires.few)) (simp length-set (omega (arith, c.loop-y-2-test.true, c.requires.out_len))),
+      omega (arith, l.invariant.1),
+    )
 
 pub returns : goal.returns
 returns c =

@@ -20,10 +20,10 @@ returns-then-listed c = offer_listed c.args.self.now _ _ c.if-list-eq0.false (sy
 pub returns-then-known : goal.returns-then-known
 returns-then-known c =
     let over : has c.args.self.now.arcs c.args.s ≡ true =
-        elim c.then-known.branch [
-          | then-known-via-then-known w ↦ c.requires.known_has w.if-known.true
-          | then-known-via-else-known+then-present w ↦ sym w.present.ensures ∙ w.if-present.true
-        ] in
+    elim c.then-known.branch [
+      | then-known-via-then-known w ↦ c.requires.known_has w.if-known.true
+      | then-known-via-else-known+then-present w ↦ sym w.present.ensures ∙ w.if-present.true
+    ] in
     ap Some c.total-less.ensures
     ∙ offer_sum c.args.self.now _ _ c.if-list-eq0.false (sym c.listed.ensures ∙ c.if-listed.false) over (omega arith) (omega arith)
 
