@@ -1,2 +1,3 @@
--- What the leaf functions compute: the bits of what is in range.
+-- What the leaf functions compute: the bits of what is in range, and a list by one comparison.
 pub mod Range
+mod Lists

@@ -21,10 +21,7 @@ const GRADES: [u32; 16] = [
 pub fn pair_fault(n: u32, pair: Pair) -> bool
     ensures { result ≡ pair_fault_of n pair.sender pair.receiver }
 {
-    if n <= pair.sender {
-        return true;
-    }
-    if n <= pair.receiver {
+    if n <= pair.sender.max(pair.receiver) {
         return true;
     }
     pair.sender == pair.receiver
@@ -43,21 +40,15 @@ pub fn senders(n: u32, receiver: u32) -> u32
     ancestors::left_out(ancestors::below(ALL, n), receiver)
 }
 
-// Whether the list has a bit not below n.
-pub fn bit_beyond(n: u32, list: u32) -> bool
-    ensures { result ≡ leb (2 ^ n) list }
-{
-    ancestors::below(list, n) != list
-}
-
-// A list among n nodes: it has no bit not below n, and the node's.
+// A list among n nodes: it has no bit not below n, and the node's. Both are one comparison: the list is its nodes below n but this one, and this one.
 fn check_list(n: u32, node: u32, list: u32) -> Result<(), Fault>
     ensures { answered result ≡ cond (list_fault_of n node list) 12 0 }
 {
-    if bit_beyond(n, list) {
+    if n <= node || network::MAX_NODES <= node {
         return Err(Fault::List);
     }
-    if ancestors::listed(list, node) {
+    let others = ancestors::left_out(ancestors::below(ALL, n), node);
+    if ancestors::joined(list & others, node) == list {
         return Ok(());
     }
     Err(Fault::List)
