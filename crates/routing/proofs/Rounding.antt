@@ -8,7 +8,9 @@ use Prim.Native.Nat.{ℕ}
 use native.Mathlib.Omega.{arith}
 use lib.ListN.{length}
 use borrow.Author.Tests.{eq-eqb, ne_eqb}
-use Rattle.std.specs.Prelude.{Option, Some, None}
+use Rattle.std.specs.Borrow.{Bor}
+use Rattle.std.specs.Prelude.{Option, Some, None, MatchOption, option_map}
+use Rattle.std.specs.Array.{IsWholeChunk}
 use Rattle.network.specs.Network.{Net}
 use Rattle.network.specs.Round.{marked, hear, renew, round, stray_mark, idle_mark, every_arc, round_number, round_of, full_round_of}
 use Rattle.memory.specs.Layout.{view}
@@ -54,6 +56,12 @@ module _ (xs ms : List ℕ) where
     pub round_done : length ms ≡ 32 → (zs : List ℕ) → view zs ≡ round (given (view xs) (Some ms)) (view xs) → Leaves (round_of (view xs) ms) 0 xs zs
     unfolding round_of round_number given
     round_done e zs v = leaves_accepted _ _ xs zs (rw (eq-eqb (length ms) 32 e, none_stray xs ms none_idle, none_idle)) v
+
+-- 32 words as an array are those words
+pub all_words : (o : Option (Bor (List ℕ))) (ms : List ℕ) → MatchOption o (length ms ≢ 32) (λ y. IsWholeChunk ms y.now 32) → length ms ≡ 32
+    → option_map (λ words. words.now) o ≡ Some ms
+all_words None ms m e = absurd (m e)
+all_words (Some y) ms m e = ap Some m.same
 
 -- a round with every arc heard
 pub arcs_given : (x : Net) (s r : ℕ) → given x None s r ≡ true → every_arc x s r ≡ true

@@ -6,7 +6,7 @@
 // Nodes are numbers of 32 bits, and indices here, for which std has no `From<u32>`: `as usize`, and `as u32` of what is below 32.
 #![tactic(auto)]
 
-ghost use Rattle.std.specs.Prelude.{◌≡◌, ◌≢◌, true, cond, ℕ, ◌<◌, length, set, IfSome, option_map};
+ghost use Rattle.std.specs.Prelude.{◌≡◌, ◌≢◌, true, cond, ℕ, ◌<◌, length, set, option_map};
 ghost use Rattle.network.specs.Answered.{answered};
 ghost use Rattle.network.specs.Network.{with_row};
 ghost use Rattle.network.specs.Round.{renew, round, every_arc, round_of, full_round_of};
@@ -125,8 +125,7 @@ fn arcs_of(net: &Network, receiver: Node) -> u32
 
 // Hears the marks, by receiver, or every arc.
 #[tactic(auto, using(memory::proofs::Laws::few, crate::proofs::Hearing::rows_begun, crate::proofs::Hearing::rows_done))]
-fn hear_marks(net: &mut Network, marks: Option<&[u32]>)
-    requires { IfSome marks (λ words. length words.now ≡ 32) }
+fn hear_marks(net: &mut Network, marks: Option<&[u32; 32]>)
     ensures { by_words net.new ≡ hear_arcs (given (view net.old) (option_map (λ words. words.now) marks.entry)) (by_words net.old) }
 {
     for r in 0..memory::nodes(net) as usize {
@@ -194,9 +193,8 @@ fn renew_rows(net: &mut Network)
 
 // Hears the marks, or every arc, and then gives every node but the origin a new row.
 #[tactic(auto, using(crate::proofs::Rounding::advanced))]
-fn advance(net: &mut Network, marks: Option<&[u32]>)
-    requires long { IfSome marks (λ words. length words.now ≡ 32) }
-    requires on_arcs { (s r : ℕ) → given (view net.old) (option_map (λ words. words.now) marks) s r ≡ true → every_arc (view net.old) s r ≡ true }
+fn advance(net: &mut Network, marks: Option<&[u32; 32]>)
+    requires { (s r : ℕ) → given (view net.old) (option_map (λ words. words.now) marks) s r ≡ true → every_arc (view net.old) s r ≡ true }
     ensures { view net.new ≡ round (given (view net.old) (option_map (λ words. words.now) marks.entry)) (view net.old) }
 {
     prime(net);
@@ -239,7 +237,7 @@ fn any_outside(n: u32, marks: &[u32], words: &[u32]) -> bool
 
 // A round on 32 words of marks; word r has bit s for "r heard s". Refused as Cut for another number of words; as Range for a mark out of range or
 // from a node to itself, anywhere; then as Mark for a mark without an arc, anywhere.
-#[tactic(auto, using(crate::proofs::Marks::stray_words, crate::proofs::Marks::idle_words, crate::proofs::Rounding::round_cut, crate::proofs::Rounding::round_stray, crate::proofs::Rounding::round_idle, crate::proofs::Rounding::marks_given, crate::proofs::Rounding::round_done))]
+#[tactic(auto, using(crate::proofs::Marks::stray_words, crate::proofs::Marks::idle_words, crate::proofs::Rounding::round_cut, crate::proofs::Rounding::round_stray, crate::proofs::Rounding::round_idle))]
 pub fn round(net: &mut Network, marks: &[u32]) -> Result<(), Fault>
     ensures { Leaves (round_of (view net.old) marks.now) (answered result) net.old net.new }
 {
@@ -254,7 +252,7 @@ pub fn round(net: &mut Network, marks: &[u32]) -> Result<(), Fault>
         }
         return Err(Fault::Mark);
     }
-    advance(net, Some(marks));
+    advance(net, marks.as_array::<32>());
     Ok(())
 }
 
