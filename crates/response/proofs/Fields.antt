@@ -65,6 +65,10 @@ module _ (b : List ℕ) where
     unfolding num16 num8
     low i = omega (arith, bytes i, bytes (i + 1))
 
+    pub low32 : (i : ℕ) → num32 b i < 2 ^ 32
+    unfolding num32
+    low32 i = omega (arith, low i, low (i + 2))
+
 -- ---- an entry
 
 module _ (a : ℕ) (b : List ℕ) where

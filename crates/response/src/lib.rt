@@ -4,10 +4,11 @@
 // No function has a precondition.
 #![tactic(auto)]
 
-ghost use Rattle.std.specs.Prelude.{◌≡◌, cond, ◌+◌, ◌*◌};
+ghost use Rattle.std.specs.Prelude.{◌≡◌, cond, ◌+◌, ◌*◌, ◌<◌};
 ghost use Rattle.filling.specs.Filling.{Wrote, copied};
 ghost use Rattle.network.specs.Answered.{answered};
 ghost use Rattle.response.specs.Messages.{hops_metric_of, entry, entry_count_of, message_count_of, messages_length_of, base_fault, given_then};
+ghost use Rattle.records.specs.Numbers.{num32};
 ghost use Rattle.response.specs.Reading.{entry_fault, entry_metric};
 
 use arrayvec::ArrayVec;
@@ -120,14 +121,28 @@ pub fn put_entry(a: u32, m: u8, out: &mut [u8]) -> usize
     ENTRY_LENGTH
 }
 
+// The numbers in the four bytes from i on and in the next four as one; a byte past the end counts as 0.
+#[tactic(auto, unfolding(records::specs::Numbers::num32, records::specs::Numbers::num16, records::specs::Numbers::num8))]
+fn double(b: &[u8], i: usize) -> u64
+    requires { i < 32 }
+    ensures { result ≡ num32 b.now i * 4294967296 + num32 b.now (i + 4) }
+{
+    if b.len() <= i {
+        return 0;
+    }
+    if let Some(bytes) = b[i..].first_chunk::<8>() {
+        return u64::from_be_bytes(*bytes);
+    }
+    u64::from(reading::word(b, i)) * 4294967296 + u64::from(reading::word(b, i + 4))
+}
+
 // The metric of the entry that a part is; None where a field is wrong.
 pub fn read_entry(part: &[u8], a: u32) -> Option<u8>
     ensures { result ≡ cond (entry_fault a part.now) None (Some (entry_metric part.now)) }
 {
-    if reading::word(part, 0) != FAMILY_TAG
-        || reading::word(part, 4) != a
-        || reading::word(part, 8) != MASK
-        || reading::word(part, 12) != 0
+    // Family, tag and address; mask and next hop.
+    if double(part, 0) != u64::from(FAMILY_TAG) * 4294967296 + u64::from(a)
+        || double(part, 8) != u64::from(MASK) * 4294967296
     {
         return None;
     }

@@ -3,16 +3,26 @@
 use native.Mathlib.Omega.{arith}
 use Rattle.std.proofs.lemmas.Bool.Decides.{nat_tests}
 use Rattle.response.specs.Reading.{metric_fault, entry_metric}
-use Rattle.response.proofs.Fields.{entry_words}
+use Rattle.records.specs.Numbers.{Bytes}
+use Rattle.response.proofs.Fields.{low32, entry_words}
 use Rattle.response.proofs.read_entry.Goals as goal
 
-pub returns-then-word-ne-FAMILY_TAG : goal.returns-then-word-ne-FAMILY_TAG
-returns-then-word-ne-FAMILY_TAG c = rw (entry_words c.args.a c.args.part.now (λ i. omega (arith, c.type_inv.part i))) (grind (arith, nat_tests))
+pub returns-then-double-from : goal.returns-then-double-from
+returns-then-double-from c =
+    let b = c.args.part.now in
+    let bytes : Bytes b = λ i. omega (arith, c.type_inv.part i) in
+    rw (entry_words c.args.a b bytes) (grind (arith, nat_tests, low32 b bytes 4, low32 b bytes 12))
 
 pub returns-then-m-eq0 : goal.returns-then-m-eq0
 unfolding metric_fault
-returns-then-m-eq0 c = rw (entry_words c.args.a c.args.part.now (λ i. omega (arith, c.type_inv.part i))) (grind (arith, nat_tests))
+returns-then-m-eq0 c =
+    let b = c.args.part.now in
+    let bytes : Bytes b = λ i. omega (arith, c.type_inv.part i) in
+    rw (entry_words c.args.a b bytes) (grind (arith, nat_tests))
 
 pub returns : goal.returns
 unfolding metric_fault entry_metric
-returns c = rw (entry_words c.args.a c.args.part.now (λ i. omega (arith, c.type_inv.part i))) (grind (arith, nat_tests))
+returns c =
+    let b = c.args.part.now in
+    let bytes : Bytes b = λ i. omega (arith, c.type_inv.part i) in
+    rw (entry_words c.args.a b bytes) (grind (arith, nat_tests, low32 b bytes 4, low32 b bytes 12, c.ranges.a.fits))
