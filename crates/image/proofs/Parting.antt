@@ -14,7 +14,7 @@ use Rattle.records.specs.Image.{each, arc_bytes, row_bytes, report_bytes, by_nod
 use Rattle.records.proofs.Each.{each_same, each_split, each_none}
 use Rattle.records.proofs.Sizes.{end_long, header_long, each_gap, pairs_gap}
 use Rattle.filling.specs.Filling.{Wrote}
-use Rattle.image.specs.Lines.{arc_at, row_at, report_at, arcs_of, rows_of, reports_of, rest_of}
+use Rattle.image.specs.Lines.{arc_at, row_at, report_at, all_arcs, all_rows, all_reports, rest_of}
 use Rattle.image.specs.Measured.{sum, receiver_bytes, most_bytes_of}
 use Rattle.image.proofs.Sums.{sum_same, sum_add, sum_swap}
 use Rattle.image.proofs.Lengths.{arc_at_most, row_at_most, report_at_most, each_sum}
@@ -53,7 +53,7 @@ node_none : (n y : ℕ) (l : List ℕ) → n ≤ y → cond (node_fault n y) [] 
 node_none n y l h = rw (node_bad n y h)
 
 -- the length of what follows the first record
-pub rest_long : (x : Net) → length (rest_of x) ≡ length (arcs_of x) + (length (rows_of x) + length (reports_of x) + record_length 0)
+pub rest_long : (x : Net) → length (rest_of x) ≡ length (all_arcs x) + (length (all_rows x) + length (all_reports x) + record_length 0)
 unfolding rest_of body_length
 rest_long x = simp (length-append, end_long)
 
@@ -100,13 +100,13 @@ module _ (x : Net) (n o : ℕ) (nodes : n ≡ x.nodes) (origin : o ≡ x.origin)
   image_by_nodes l h e =
       let m = x.nodes in
       let free = node_free m o (omega arith) in
-      let a : length (arcs_of x) ≤ m * (m - 1) * record_length 2 = pairs_gap (arc_at x) (record_length 2) m (λ s. rw (pair_same m s)) (arc_at_most x) in
-      let b : length (rows_of x) ≤ record_length 3 * (m - 1) = each_gap (row_at x) (record_length 3) m o (omega arith) (rw (free, e)) (row_at_most x) in
-      let c : length (reports_of x) ≤ m * (m - 1) * record_length 4 = pairs_gap (report_at x) (record_length 4) m (λ s. rw (pair_same m s)) (report_at_most x) in
+      let a : length (all_arcs x) ≤ m * (m - 1) * record_length 2 = pairs_gap (arc_at x) (record_length 2) m (λ s. rw (pair_same m s)) (arc_at_most x) in
+      let b : length (all_rows x) ≤ record_length 3 * (m - 1) = each_gap (row_at x) (record_length 3) m o (omega arith) (rw (free, e)) (row_at_most x) in
+      let c : length (all_reports x) ≤ m * (m - 1) * record_length 4 = pairs_gap (report_at x) (record_length 4) m (λ s. rw (pair_same m s)) (report_at_most x) in
       rw nodes (omega (arith, image_long, rest_long x, a, b, c))
 
 -- the bytes of the arcs, by receiver
-pub arcs_long : (x : Net) → x.nodes ≤ max_nodes → length (arcs_of x) ≡ sum (λ r. sum (λ s. length (arc_at x s r)) max_nodes) x.nodes
+pub arcs_long : (x : Net) → x.nodes ≤ max_nodes → length (all_arcs x) ≡ sum (λ r. sum (λ s. length (arc_at x s r)) max_nodes) x.nodes
 unfolding arc_at
 arcs_long x few =
     let m = x.nodes in

@@ -17,15 +17,15 @@ unfoldable pub report_at : Net → ℕ → ℕ → List ℕ
 report_at x s r = cond (pair_fault_of x.nodes s r) [] (report_bytes s r (x.held s r))
 
 -- all of x's arcs, its rows and its reports
-abbrev pub arcs_of : Net → List ℕ
-arcs_of x = each (λ s. each (arc_at x s) 0 x.nodes) 0 x.nodes
+abbrev pub all_arcs : Net → List ℕ
+all_arcs x = each (λ s. each (arc_at x s) 0 x.nodes) 0 x.nodes
 
-abbrev pub rows_of : Net → List ℕ
-rows_of x = each (row_at x) 0 x.nodes
+abbrev pub all_rows : Net → List ℕ
+all_rows x = each (row_at x) 0 x.nodes
 
-abbrev pub reports_of : Net → List ℕ
-reports_of x = each (λ s. each (report_at x s) 0 x.nodes) 0 x.nodes
+abbrev pub all_reports : Net → List ℕ
+all_reports x = each (λ s. each (report_at x s) 0 x.nodes) 0 x.nodes
 
 -- an image without its first record
 unfoldable pub rest_of : Net → List ℕ
-rest_of x = arcs_of x ++ ((rows_of x ++ reports_of x) ++ end_record)
+rest_of x = all_arcs x ++ ((all_rows x ++ all_reports x) ++ end_record)

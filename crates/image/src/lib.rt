@@ -5,7 +5,7 @@
 // arc's cost and report are then read without a look at n. No public function has a precondition.
 #![tactic(auto, unfolding(records::specs::Records::body_length))]
 
-ghost use Rattle.std.specs.Prelude.{◌≡◌, not, eqb, ◌+◌, ◌<◌, ◌≤◌, ◌++◌, ℕ, List, leb, length, take, drop};
+ghost use Rattle.std.specs.Prelude.{◌≡◌, not, eqb, ◌+◌, ◌*◌, ◌<◌, ◌≤◌, ◌++◌, ℕ, List, leb, length, take, drop};
 ghost use Rattle.ancestors.specs.Ancestors.{has, count};
 ghost use Rattle.network.specs.Faults.{max_nodes};
 ghost use Rattle.network.specs.Writing.{Writes};
@@ -16,7 +16,7 @@ ghost use Rattle.records.specs.Records.{record_length, end_record, header_record
 ghost use Rattle.records.specs.Image.{each, image, image_of};
 ghost use Rattle.filling.specs.Filling.{Wrote};
 ghost use Rattle.image.specs.Items.{route_bytes, used};
-ghost use Rattle.image.specs.Lines.{arc_at, row_at, report_at, arcs_of, rows_of, reports_of, rest_of};
+ghost use Rattle.image.specs.Lines.{arc_at, row_at, report_at, all_arcs, all_rows, all_reports, rest_of};
 ghost use Rattle.image.specs.Measured.{holds, receiver_bytes, most_bytes_of};
 
 use memory::{Network, RowRead};
@@ -205,8 +205,8 @@ fn write_report(from: &Source, pair: Pair, out: &mut [u8]) -> Option<usize>
 
 // The rows.
 fn write_rows(net: &Network, out: &mut [u8]) -> usize
-    requires { length (rows_of (view net.now)) ≤ length out.old }
-    ensures { Wrote (rows_of (view net.now)) out.old out.new result }
+    requires { length (all_rows (view net.now)) ≤ length out.old }
+    ensures { Wrote (all_rows (view net.now)) out.old out.new result }
 {
     let mut at: usize = 0;
     for node in 0..memory::nodes(net) {
@@ -254,10 +254,10 @@ fn write_sender(from: &Source, sender: u32, n: u32, arcs: &mut [u8], reports: &m
 
 // All of them.
 fn write_pairs(from: &Source, arcs: &mut [u8], reports: &mut [u8]) -> Filled
-    requires arcs_room { length (arcs_of (view from.now.net.now)) ≤ length arcs.old }
-    requires reports_room { length (reports_of (view from.now.net.now)) ≤ length reports.old }
-    ensures arcs { Wrote (arcs_of (view from.now.net.now)) arcs.old arcs.new result.arcs }
-    ensures reports { Wrote (reports_of (view from.now.net.now)) reports.old reports.new result.reports }
+    requires arcs_room { length (all_arcs (view from.now.net.now)) ≤ length arcs.old }
+    requires reports_room { length (all_reports (view from.now.net.now)) ≤ length reports.old }
+    ensures arcs { Wrote (all_arcs (view from.now.net.now)) arcs.old arcs.new result.arcs }
+    ensures reports { Wrote (all_reports (view from.now.net.now)) reports.old reports.new result.reports }
 {
     let n = memory::nodes(from.net);
     let mut i: usize = 0;
@@ -273,13 +273,20 @@ fn write_pairs(from: &Source, arcs: &mut [u8], reports: &mut [u8]) -> Filled
     }
 }
 
-// The bytes of the arcs, by their words. An index is a `usize`, for which std has no `From<u32>`.
+// The bytes of the arcs in a receiver's word. A count is a `usize` there, and so is an index below, for which std has no `From<u32>`.
+fn word_length(arcs: u32) -> usize
+    ensures { result ≡ count (has arcs) max_nodes * record_length 2 }
+{
+    ancestors::count_nodes(arcs) as usize * ARC_LENGTH
+}
+
+// The bytes of all arcs, by their words.
 fn arcs_length(from: &Source) -> usize
-    ensures { result ≡ length (arcs_of (view from.now.net.now)) }
+    ensures { result ≡ length (all_arcs (view from.now.net.now)) }
 {
     let mut total: usize = 0;
     for r in 0..memory::nodes(from.net) {
-        total += ancestors::count_nodes(from.arcs[r as usize]) as usize * ARC_LENGTH;
+        total += word_length(from.arcs[r as usize]);
     }
     total
 }
@@ -366,9 +373,7 @@ fn receiver_length(net: &Network, arcs: u32, r: u32) -> usize
     requires { arcs ≡ arcs_to (view net.now) r }
     ensures { result ≡ receiver_bytes (view net.now) r }
 {
-    row_length(net, r)
-        + ancestors::count_nodes(arcs) as usize * ARC_LENGTH
-        + held_count(net, arcs, r) as usize * REPORT_LENGTH
+    row_length(net, r) + word_length(arcs) + held_count(net, arcs, r) as usize * REPORT_LENGTH
 }
 
 // The length of an image, by the arcs' words.

@@ -3,15 +3,13 @@
 use native.Mathlib.Omega.{arith}
 use mathlib.Core.Path.{◌≡◌, sym, ap, ◌∙◌}
 use Prim.Native.Nat.{◌*◌}
-use Rattle.ancestors.specs.Ancestors.{has, count}
 use Rattle.network.specs.Faults.{max_nodes}
 use Rattle.memory.specs.Layout.{view}
 use Rattle.memory.proofs.Laws.{few}
 use Rattle.records.specs.Records.{body_length, record_length}
 use Rattle.image.specs.Measured.{sum}
 use Rattle.image.proofs.Sums.{sum_zero, sum_next, sum_most}
-use Rattle.image.proofs.Reading.{word_of}
-use Rattle.image.proofs.Receivers.{arcs_counted, arcs_some, arcs_all}
+use Rattle.image.proofs.Receivers.{arcs_counted, arcs_counted_most, arcs_in_word, arcs_all}
 use Rattle.image.proofs.arcs_length.Goals as goal
 
 pub loop-r-init : goal.loop-r-init
@@ -25,18 +23,15 @@ unfolding body_length
 overflow_add-total c =
     let l = c.loop-r in
     let s = c.args.from.now in
-    let word = word_of s.net.now s.arcs.now l.r s.words (omega (arith, c.loop-r-test.true, c.nodes-r-end.ensures)) in
-    let here = c.count_nodes.ensures ∙ ap (λ w. count (has w) max_nodes) word in
-    let sofar = sum_most (arcs_counted s.net.now) (max_nodes * record_length 2) l.r (arcs_some s.net.now) in
-    omega (arith, l.invariant, few s.net.now, sofar, here, arcs_some s.net.now l.r)
+    let here = arcs_in_word s.net.now s.arcs.now l.r _ s.words (omega (arith, c.loop-r-test.true, c.nodes-r-end.ensures)) c.word_length-total.ensures in
+    let sofar = sum_most (arcs_counted s.net.now) (max_nodes * record_length 2) l.r (arcs_counted_most s.net.now) in
+    omega (arith, l.invariant, few s.net.now, sofar, here, arcs_counted_most s.net.now l.r)
 
 pub loop-r-preserved : goal.loop-r-preserved
-unfolding body_length
 loop-r-preserved c =
     let l = c.loop-r in
     let s = c.args.from.now in
-    let word = word_of s.net.now s.arcs.now l.r s.words (omega (arith, c.loop-r-test.true, c.nodes-r-end.ensures)) in
-    let here = c.count_nodes.ensures ∙ ap (λ w. count (has w) max_nodes) word in
+    let here = arcs_in_word s.net.now s.arcs.now l.r _ s.words (omega (arith, c.loop-r-test.true, c.nodes-r-end.ensures)) c.word_length-total.ensures in
     omega (arith, l.invariant, here, sum_next (arcs_counted s.net.now) l.r)
 
 pub returns : goal.returns

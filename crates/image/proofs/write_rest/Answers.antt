@@ -5,7 +5,7 @@ use lib.ListN.{length}
 use Rattle.memory.specs.Layout.{view}
 use Rattle.records.specs.Records.{record_length}
 use Rattle.filling.proofs.Parts.{wrote_then, wrote_split, room}
-use Rattle.image.specs.Lines.{reports_of, rest_of}
+use Rattle.image.specs.Lines.{all_reports, rest_of}
 use Rattle.image.proofs.Parting.{rest_long}
 use Rattle.image.proofs.write_rest.Goals as goal
 
@@ -22,7 +22,7 @@ pub write_pairs-filled-requires-clause-reports_room : goal.write_pairs-filled-re
 write_pairs-filled-requires-clause-reports_room c =
     let x = view c.args.from.now.net.now in
     let r = c.write_rows-rows.ensures in
-    room (length (reports_of x)) r (omega (arith, r.used, c.arcs_length.ensures, rest_long x, c.requires, c.split_at_mut-arcs.ensures.back_len))
+    room (length (all_reports x)) r (omega (arith, r.used, c.arcs_length.ensures, rest_long x, c.requires, c.split_at_mut-arcs.ensures.back_len))
 
 pub put_end-requires : goal.put_end-requires
 put_end-requires c =
