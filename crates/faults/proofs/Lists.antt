@@ -1,7 +1,7 @@
 -- A list among n nodes by one comparison: it is its nodes below n but one, and that one, exactly where it has no other bit and that node's.
 -- Assumes nothing.
-use mathlib.Core.Path.{◌≡◌, refl, sym, ap, ◌∙◌}
-use mathlib.Core.Bool.{Bool, true, false, not, ◌&&◌, ◌||◌}
+use mathlib.Core.Path.{◌≡◌, sym, ap, ◌∙◌}
+use mathlib.Core.Bool.{true, false, cond, not, ◌&&◌, ◌||◌, and-true, and-false, or-true}
 use mathlib.Core.Logic.{◌⊎◌, inl, inr, ◌≢◌}
 use Prim.Native.Nat.{ℕ, ◌+◌, ◌-◌, ◌%◌, ◌^◌, ◌<◌, ◌≤◌}
 use native.Mathlib.Omega.{arith}
@@ -17,22 +17,25 @@ use Rattle.network.specs.Faults.{list_fault_of}
 use Rattle.faults.proofs.Range.{has_below}
 
 -- the nodes below n but i
-abbrev pub others : ℕ → ℕ → ℕ
+abbrev others : ℕ → ℕ → ℕ
 others n i = cut (4294967295 % 2 ^ n) i
 
 -- those of the list, and i
-abbrev pub whole : ℕ → ℕ → ℕ → ℕ
+abbrev whole : ℕ → ℕ → ℕ → ℕ
 whole n i l = put (bit_and l (others n i)) i
+
+-- as the code puts it together
+pub whole_is : (n i l : ℕ) {every rest joined : ℕ} → i < 32 → every ≡ 4294967295 % 2 ^ n → rest ≡ cond (ltb i 32) (cut every i) every
+    → joined ≡ cond (ltb i 32) (put (bit_and l rest) i) (bit_and l rest) → joined ≡ whole n i l
+whole_is n i l {every} {rest} small a b c =
+    let found : rest ≡ others n i = b ∙ rw (lt-ltb i 32 small, a) in
+    c ∙ rw (lt-ltb i 32 small, found)
 
 module _ (n i l : ℕ) (fits : l < 2 ^ 32) where
   -- without the node's bit the list is at fault, whatever else it has
-  pub none_listed : has l i ≡ false → list_fault_of n i l ≡ true
+  none_listed : has l i ≡ false → list_fault_of n i l ≡ true
   unfolding list_fault_of
-  none_listed e = rw e (go (leb (2 ^ n) l))
-    where
-      go : (b : Bool) → (b || true) ≡ true
-      go true = refl
-      go false = refl
+  none_listed e = rw e (or-true (leb (2 ^ n) l))
 
   -- so it is where the node is none
   pub none_node : (n ≤ i) ⊎ (32 ≤ i) → list_fault_of n i l ≡ true
@@ -64,11 +67,7 @@ module _ (n i l : ℕ) (fits : l < 2 ^ 32) where
             bit : (j : ℕ) → j < 32 → (i ≡ j) ⊎ (i ≢ j) → (n ≤ j) ⊎ (j < n) → has (whole n i l) j ≡ has l j
             bit j h (inl q) c = ap (has (whole n i l)) (sym q) ∙ has_put_same (bit_and l (others n i)) i ∙ sym e ∙ ap (has l) q
             bit j h (inr q) (inl c) = let z = has_beyond n l j b c in other_bit j h q ∙ rw z
-            bit j h (inr q) (inr c) = other_bit j h q ∙ rw (lt-ltb j n c) (kept (has l j))
-              where
-                kept : (t : Bool) → (t && true) ≡ t
-                kept true = refl
-                kept false = refl
+            bit j h (inr q) (inr c) = other_bit j h q ∙ rw (lt-ltb j n c) (and-true (has l j))
 
         go : (2 ^ n ≤ l) ⊎ (l < 2 ^ n) → (has l i ≡ true) ⊎ (has l i ≡ false) → (leb (2 ^ n) l || not (has l i)) ≡ true
         go (inl b) e = rw (le-leb (2 ^ n) l b)
@@ -95,9 +94,5 @@ module _ (n i l : ℕ) (fits : l < 2 ^ 32) where
                 let below : f.0 < 32 = omega (arith, f.2) in
                 let d : i ≢ f.0 = λ q. omega (arith, f.1) in
                 let z : has l f.0 ≡ false =
-                sym (ap (λ v. has v f.0) e) ∙ other_bit f.0 below d ∙ rw (le-ltb f.0 n f.1) (none (has l f.0)) in
+                sym (ap (λ v. has v f.0) e) ∙ other_bit f.0 below d ∙ rw (le-ltb f.0 n f.1) (and-false (has l f.0)) in
                 never (has l f.0) f.3 z
-              where
-                none : (t : Bool) → (t && false) ≡ false
-                none true = refl
-                none false = refl

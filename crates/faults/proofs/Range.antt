@@ -1,7 +1,7 @@
 -- The bits of what is in range for a receiver: those below n without its own.
 -- Assumes nothing.
 use mathlib.Core.Path.{◌≡◌, refl, sym, ap, ◌∙◌}
-use mathlib.Core.Bool.{true, false, cond, not, ◌&&◌}
+use mathlib.Core.Bool.{true, false, cond, not, and-true}
 use mathlib.Core.Logic.{◌⊎◌, inl, inr, ◌≢◌}
 use Prim.Native.Nat.{ℕ, ◌%◌, ◌^◌, ◌<◌, ◌≤◌}
 use native.Mathlib.Omega.{arith}
@@ -26,11 +26,7 @@ has_all s h = ap (λ l. has l s) all_bits ∙ has_those (λ s. true) 32 s ∙ rw
 
 -- those below n
 pub has_below : (n s : ℕ) → s < 32 → has (4294967295 % 2 ^ n) s ≡ ltb s n
-has_below n s h = has_low 4294967295 n s ∙ rw (has_all s h) (go (ltb s n))
-  where
-    go : (b : _) → (b && true) ≡ b
-    go true = refl
-    go false = refl
+has_below n s h = has_low 4294967295 n s ∙ rw (has_all s h) (and-true (ltb s n))
 
 -- a receiver that is no node has none
 pub senders_none : (n r : ℕ) → n ≤ r → 0 ≡ senders n r

@@ -1,4 +1,4 @@
--- The records of an image by node and by pair of nodes.
+-- The records of an image by node and by pair of nodes, all of a kind, and all but the first.
 -- Assumes nothing.
 use Rattle.std.specs.Prelude.{cond, List, [], ◌++◌, ℕ}
 use Rattle.network.specs.Faults.{node_fault, pair_fault_of}

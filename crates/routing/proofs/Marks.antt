@@ -1,7 +1,7 @@
 -- Marks tested and heard a word at a time are the marks of the definition.
 -- Assumes nothing.
 use mathlib.Core.Path.{◌≡◌, refl, sym, ap, ap₂, ◌∙◌}
-use mathlib.Core.Bool.{true, false, not, ◌&&◌, ◌||◌}
+use mathlib.Core.Bool.{Bool, true, false, not, ◌&&◌, ◌||◌}
 use mathlib.Core.Logic.{◌⊎◌, inl, inr}
 use mathlib.Core.List.{List}
 use Prim.Native.Nat.{ℕ, ◌+◌, ◌^◌, ◌<◌}
@@ -89,3 +89,8 @@ pub idle_words : (xs : List ℕ) (n : ℕ) (ms : List ℕ) → length xs ≡ wor
 unfolding outside_rows idle_rows
 idle_words xs n ms size is =
     some_ext _ _ 32 (λ r k. ap (outside (get_or ms r 0)) (ap (λ v. bit_and v (senders n r)) (part_at xs arc_bits 32 (omega arith) r k) ∙ arcs_word xs n r is))
+
+-- so that none of them is without an arc where no mark is outside
+pub idle_free : (xs : List ℕ) (n : ℕ) (ms : List ℕ) → length xs ≡ word_count → n ≡ (view xs).nodes → {found : Bool} → found ≡ outside_rows n ms (part xs arc_bits 32) 32
+    → found ≡ false → idle_rows (view xs) ms 32 ≡ false
+idle_free xs n ms size is tested none = sym (idle_words xs n ms size is) ∙ sym tested ∙ none

@@ -102,13 +102,13 @@ fn hear_fours(net: &mut Network, receiver: Node, word: u32)
 }
 
 // Among how many nodes it takes no longer to go from mark to mark, whatever marks there are.
-const FEW: u32 = 4;
+const FEW_NODES: u32 = 4;
 
 // Goes from mark to mark among few nodes and where no two beside each other are marked, and else through all senders, which takes less time for each.
 fn hear_row(net: &mut Network, receiver: Node, word: u32)
     ensures { by_words net.new ≡ hear_arcs (row_marks receiver.index word 32) (by_words net.old) }
 {
-    if memory::nodes(net) <= FEW || word & (word >> 1) == 0 {
+    if memory::nodes(net) <= FEW_NODES || word & (word >> 1) == 0 {
         hear_few(net, receiver, word);
     } else {
         hear_fours(net, receiver, word);

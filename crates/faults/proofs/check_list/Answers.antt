@@ -3,10 +3,8 @@
 use mathlib.Core.Path.{◌≡◌, sym, ◌∙◌}
 use mathlib.Core.Bool.{true}
 use mathlib.Core.Logic.{inl, inr}
-use Prim.Native.Nat.{◌<◌}
-use borrow.Author.Tests.{lt-ltb}
 use Rattle.network.specs.Faults.{list_fault_of}
-use Rattle.faults.proofs.Lists.{others, whole, none_node, other_list, this_list}
+use Rattle.faults.proofs.Lists.{whole_is, none_node, other_list, this_list}
 use Rattle.faults.proofs.check_list.Goals as goal
 use Rattle.faults.proofs.check_list.Goals.{then-n-node-via-then-n-node, then-n-node-via-else-n-node+then-node-ge-MAX_NODES}
 
@@ -23,15 +21,13 @@ returns-then-n-node c =
 pub returns-then-joined-list : goal.returns-then-joined-list
 returns-then-joined-list c =
     let a = c.args in
-    let small : a.node < 32 = c.if-node-ge-MAX_NODES.false in
-    let rest : c.left_out-others.result ≡ others a.n a.node = c.left_out-others.ensures ∙ rw (lt-ltb a.node 32 small, c.below.ensures) in
-    let joined : c.joined.result ≡ whole a.n a.node a.list = c.joined.ensures ∙ rw (lt-ltb a.node 32 small, rest) in
+    let small = c.if-node-ge-MAX_NODES.false in
+    let joined = whole_is a.n a.node a.list small c.below.ensures c.left_out-others.ensures c.joined.ensures in
     rw (this_list a.n a.node a.list c.ranges.list.fits c.if-n-node.false small (sym joined ∙ c.if-joined-list.true))
 
 pub returns : goal.returns
 returns c =
     let a = c.args in
-    let small : a.node < 32 = c.if-node-ge-MAX_NODES.false in
-    let rest : c.left_out-others.result ≡ others a.n a.node = c.left_out-others.ensures ∙ rw (lt-ltb a.node 32 small, c.below.ensures) in
-    let joined : c.joined.result ≡ whole a.n a.node a.list = c.joined.ensures ∙ rw (lt-ltb a.node 32 small, rest) in
+    let small = c.if-node-ge-MAX_NODES.false in
+    let joined = whole_is a.n a.node a.list small c.below.ensures c.left_out-others.ensures c.joined.ensures in
     rw (other_list a.n a.node a.list c.ranges.list.fits c.if-n-node.false small (λ e. c.if-joined-list.false (joined ∙ e)))
