@@ -1,3 +1,4 @@
 pub mod Digits
 pub mod Stopping
 pub mod Adding
+pub mod Putting
