@@ -7,11 +7,11 @@ use Prim.Native.Nat.{ℕ, zero, suc, ◌+◌, ◌*◌, ◌/◌, ◌%◌, ◌^◌
 use native.Mathlib.Nat.{pow-suc, one-le-pow}
 use native.Mathlib.Numerals.{unary_clauses}
 use native.Mathlib.Omega.{arith}
-use lib.ListN.{length}
+use lib.ListN.{length, length-append}
 use borrow.Author.Tests.{lt-ltb, le-ltb}
 use Rattle.io.specs.Digits.{last_digits, IsDigitCount}
 use Rattle.std.specs.Fmt.{decimal as written}
-use Rattle.std.proofs.lemmas.Fmt.{decimal_by_steps, length-decimal-le}
+use Rattle.std.proofs.lemmas.Fmt.{decimal_by_steps}
 use Rattle.ancestors.proofs.Cases.{le_or_lt}
 use Rattle.text.specs.Text.{decimal_in, decimal}
 
@@ -62,6 +62,15 @@ written_decimal =
     (λ n h. let e : n % 10 ≡ n = omega arith in rw (decimal_one n h, e))
     (λ n l h e. ap (λ (d : List ℕ). d ++ last n) e ∙ sym (decimal_more n h))
 
--- a number of 64 bits has at most 20
+-- a number below 10 to the power k + 1 has at most k + 1 digits
+decimal_most : (k n : ℕ) → n < 10 ^ suc k → length (decimal n) ≤ suc k
+decimal_most zero n h = omega (arith, ap length (decimal_one n (omega arith)))
+decimal_most (suc k) n h =
+    let b : 10 ^ suc (suc k) ≡ 10 ^ suc k * 10 = pow-suc 10 (suc k) in
+    ⊎_elim
+    (λ big. omega (arith, ap length (decimal_more n big), length-append (decimal (n / 10)) (last n), decimal_most k (n / 10) (omega arith)))
+    (λ small. omega (arith, ap length (decimal_one n small))) (le_or_lt 10 n)
+
+-- one of 64 bits has at most 20
 pub long_digits : (n : ℕ) → n < 2 ^ 64 → length (decimal n) ≤ 20
-long_digits n h = omega (arith, ap length (written_decimal n h), length-decimal-le 20 n (omega arith) (omega arith) h)
+long_digits n h = decimal_most 19 n (omega arith)
