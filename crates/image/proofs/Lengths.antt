@@ -2,12 +2,13 @@
 -- Assumes nothing.
 use mathlib.Core.Path.{◌≡◌, refl, sym, ap, ◌∙◌}
 use mathlib.Core.List.{List, ◌++◌}
-use Prim.Native.Nat.{ℕ, zero, suc, ◌+◌, ◌-◌, ◌<◌, ◌≤◌}
+use Prim.Native.Nat.{ℕ, zero, suc, ◌+◌, ◌*◌, ◌-◌, ◌<◌, ◌≤◌}
+use native.Mathlib.Nat.{mul-le-mul}
 use native.Mathlib.Omega.{arith}
 use lib.ListN.{length, take, drop, length-append}
 use Rattle.network.specs.Faults.{max_nodes, node_fault, pair_fault_of}
 use Rattle.network.specs.Network.{Net}
-use Rattle.records.specs.Image.{each, arc_bytes, row_bytes, report_bytes, full_image, max_image}
+use Rattle.records.specs.Image.{each, arc_bytes, row_bytes, report_bytes, max_pairs, full_image, max_image}
 use Rattle.records.specs.Records.{body_length, record_length, arc_record_of, row_record_of, report_record_of}
 use Rattle.records.proofs.Each.{each_split, each_zero, each_next}
 use Rattle.records.proofs.Sizes.{arc_long, row_long, report_long, arc_most, row_most, report_most, kept_most}
@@ -43,6 +44,12 @@ module _ (x : Net) where
   pub report_at_most : (s r : ℕ) → length (report_at x s r) ≤ record_length 4
   unfolding report_at
   report_at_most s r = kept_most (record_length 4) (pair_fault_of x.nodes s r) (report_bytes s r (x.held s r)) (report_most s r (x.held s r))
+
+-- the ordered pairs of at most 32 nodes
+pub pairs_few : (n : ℕ) → n ≤ max_nodes → n * (n - 1) ≤ max_pairs
+pairs_few n h =
+    let others : n - 1 ≤ max_nodes - 1 = omega arith in
+    mul-le-mul h others
 
 -- the most bytes of an image of 32 nodes are those of the largest image
 pub most_largest : most_bytes_of max_nodes ≡ max_image

@@ -1,4 +1,4 @@
-// Standard input of programs: a reader's bytes, read to its end, and what is said where a read or a write failed.
+// A reader's bytes, read to its end.
 #![tactic(auto)]
 
 ghost use Rattle.std.specs.Prelude.{◌≤◌, length, IfOk};
@@ -20,10 +20,4 @@ pub fn read_all<R: Read>(reader: &mut R, buf: &mut [u8]) -> io::Result<usize>
         at += bytes;
     }
     Ok(at)
-}
-
-// Says on standard error what failed in a program; if that fails too, nothing is left to say.
-// It has no contract: no clause of `Eprint` says which bytes are printed.
-pub fn fail(rt: &impl Eprint, program: &str, what: &str, error: io::Error) {
-    let _said = eprintln!(rt; "{program}: {what}: {error}");
 }

@@ -43,17 +43,22 @@ fn argument<T, F: FnOnce(&[u8]) -> Option<T>>(rt: &HostRuntime, i: usize, read: 
 
 // ---- what is written
 
+// What failed, on standard error; if that fails too, nothing is left to say. Here and in `routes` by itself, as is said there.
+fn fail(rt: &HostRuntime, what: &str, error: io::Error) {
+    let _said = eprintln!(rt; "rip: {what}: {error}");
+}
+
 // Text to standard output, or why there is none to standard error.
 fn say(rt: &HostRuntime, said: Result<Said, Refusal>) {
     match said {
         Ok(text) => {
             if let Err(error) = rt.stdout().write_all(&text) {
-                input::fail(rt, "rip", "standard output", error);
+                fail(rt, "standard output", error);
             }
         }
         Err(refusal) => {
             if let Err(error) = rt.stderr().write_all(&command::line_of(refusal)) {
-                input::fail(rt, "rip", "standard error", error);
+                fail(rt, "standard error", error);
             }
         }
     }
@@ -76,7 +81,7 @@ fn write_messages(rt: &HostRuntime, base: u32) {
     let mut room = [0u8; RUN_ROOM];
     match read_run(rt, base, &mut room) {
         Ok(end) => say(rt, command::write_said(base, &room[..end])),
-        Err(error) => input::fail(rt, "rip", "standard input", error),
+        Err(error) => fail(rt, "standard input", error),
     }
 }
 
@@ -93,7 +98,7 @@ fn read_messages(rt: &HostRuntime, base: u32, count: u32) {
     let mut room = [0u8; MESSAGES_ROOM];
     match input::read_all(&mut rt.stdin(), &mut room) {
         Ok(end) => say(rt, command::read_said(base, count, &room[..end])),
-        Err(error) => input::fail(rt, "rip", "standard input", error),
+        Err(error) => fail(rt, "standard input", error),
     }
 }
 

@@ -3,15 +3,22 @@
 // `input` reads, and `table` makes what is printed.
 #![tactic(auto)]
 
+use std::io;
 use std::io::Write;
 
 // A room of fixed size is lent to the reader: there is no heap. One byte more than the longest input, so that a longer one is known without reading all of it.
 const ROOM: usize = text::MAX_INPUT + 1;
 
+// What failed, on standard error; if that fails too, nothing is left to say. Here and in `rip` by itself: no clause says which bytes are printed, so that
+// it has no contract that a public function could have.
+fn fail(rt: &HostRuntime, what: &str, error: io::Error) {
+    let _said = eprintln!(rt; "routes: {what}: {error}");
+}
+
 fn print_table(rt: &HostRuntime, run: &[u8]) {
     let text = table::write_text(run);
     if let Err(error) = rt.stdout().write_all(&text) {
-        input::fail(rt, "routes", "standard output", error);
+        fail(rt, "standard output", error);
     }
 }
 
@@ -19,6 +26,6 @@ fn main(rt: HostRuntime) {
     let mut room = [0u8; ROOM];
     match input::read_all(&mut rt.stdin(), &mut room) {
         Ok(end) => print_table(&rt, &room[..end]),
-        Err(error) => input::fail(&rt, "routes", "standard input", error),
+        Err(error) => fail(&rt, "standard input", error),
     }
 }
