@@ -166,14 +166,15 @@ fn read_records(net: &mut Network, input: &[u8], start: usize) -> Result<usize, 
     }
 }
 
-// Reads an image onto the lent words.
+// Opens an image into lent words: they become its network, and the answer is the bytes used; or, refused, they are the fresh network of one node.
 #[tactic(auto, using(records::proofs::Reading::length_within, records::proofs::Reading::length_some), unfolding(records::specs::Opening::open_of, records::specs::Opening::started, records::specs::Opening::headed, network::specs::Network::fresh_of, network::specs::Network::outcome))]
-fn read_image(net: &mut Network, input: &[u8]) -> Result<usize, Stop>
-    ensures { read_means result (view net.new) ≡ open_of input.now }
+pub fn open_into(net: &mut Network, input: &[u8]) -> Result<usize, Stop>
+    ensures { Opens (open_of input.now) result net.new }
 {
     let first = reading::start_record(input);
-    match first.event {
+    let opened = match first.event {
         Event::Header { nodes, origin } => {
+            // Refused, the words are the fresh network of one node already.
             memory::make_fresh(net, nodes, origin).map_err(|fault| Stop { fault, place: 0 })?;
             read_records(net, input, first.used)
         }
@@ -182,15 +183,7 @@ fn read_image(net: &mut Network, input: &[u8]) -> Result<usize, Stop>
             fault: Fault::Kind,
             place: 0,
         }),
-    }
-}
-
-// Opens an image into lent words: they become its network, and the answer is the bytes used; or, refused, they are the fresh network of one node.
-#[tactic(auto, unfolding(network::specs::Network::fresh_of, network::specs::Network::outcome))]
-pub fn open_into(net: &mut Network, input: &[u8]) -> Result<usize, Stop>
-    ensures { Opens (open_of input.now) result net.new }
-{
-    let opened = read_image(net, input);
+    };
     if opened.is_err() {
         // One node and the origin 0 are in range.
         let _ = memory::make_fresh(net, 1, 0);
