@@ -3,7 +3,7 @@
 // Contracts go by specs/Saying.antt and hold for any bytes. No public function has a precondition.
 #![tactic(auto)]
 
-ghost use Rattle.std.specs.Prelude.{◌≡◌, ◌++◌, false, ◌+◌, ◌*◌, ◌≤◌, length, IfOk, IfErr};
+ghost use Rattle.std.specs.Prelude.{◌≡◌, ◌++◌, false, ◌+◌, ◌*◌, ◌≤◌, length, [], IfOk, IfErr, OnOk};
 ghost use Rattle.network.specs.Answered.{fault_number};
 ghost use Rattle.text.specs.Text.{stop_line};
 ghost use Rattle.records.specs.Running.{run_of};
@@ -111,46 +111,48 @@ fn push_metric(said: &mut Said, node: usize, metric: u8)
     text::push_text(said, b"\n");
 }
 
-// The lines of the nodes.
-fn metric_lines(metrics: &[u8]) -> Said
-    requires { length metrics.now ≤ 32 }
-    ensures { result.items ≡ node_lines metrics.now (length metrics.now) }
+// The lines of the nodes. This and `push_run` stay calls: where LLVM has all of them in `read_said` and `write_said`, it clears the text more often.
+#[inline(never)]
+fn push_metrics(said: &mut Said, metrics: &[u8])
+    requires few { length metrics.now ≤ 32 }
+    requires room { length said.old.items + 1344 ≤ 4096 }
+    ensures { said.new.items ≡ said.old.items ++ node_lines metrics.now (length metrics.now) }
 {
-    let mut said = Said::new();
     for (node, &metric) in metrics.iter().enumerate() {
-        push_metric(&mut said, node, metric);
+        push_metric(said, node, metric);
     }
-    said
 }
 
 // ---- what the program writes
 
 // The messages of a network. They have room, so that the call is accepted.
-fn messages_of(net: &Network, base: u32) -> Said
+fn push_messages(said: &mut Said, net: &Network, base: u32)
+    requires room { length said.old.items + 648 ≤ 4096 }
     requires base_right { base_fault base ≡ false }
     requires count_right { count_fault (view net.now).nodes ≡ false }
-    ensures { result.items ≡ row_messages base (view net.now) }
+    ensures { said.new.items ≡ said.old.items ++ row_messages base (view net.now) }
 {
     // On the stack (no heap), for a writer into lent bytes.
     let mut room = [0u8; response::MAX_MESSAGES];
     let used = messages::write_messages(net, base, &mut room).unwrap_or(0);
-    let mut said = Said::new();
-    text::push_text(&mut said, &room[..used]);
-    said
+    text::push_text(said, &room[..used]);
 }
 
 // A base and an input stay two parameters: one is an argument of the program and the other what it reads, and each function is called once.
 
-// Of a run: its messages.
-fn run_said(base: u32, input: &[u8]) -> Result<Said, Refusal>
-    requires { base_fault base ≡ false }
-    ensures output { IfOk result (λ said. run_text base (run_of input.now) ≡ on_output said.items) }
+// Of a run: its messages, onto no bytes.
+#[inline(never)]
+fn push_run(said: &mut Said, base: u32, input: &[u8]) -> Result<(), Refusal>
+    requires empty { said.old.items ≡ [] }
+    requires base_right { base_fault base ≡ false }
+    ensures output { OnOk result (run_text base (run_of input.now) ≡ on_output said.new.items) }
     ensures line { IfErr result (λ refusal. run_text base (run_of input.now) ≡ refusal_text refusal) }
 {
     // A network's words on the stack (no heap).
     let mut net = [0u32; memory::WORDS];
     running::run_into(&mut net, input)?.finished()?;
-    Ok(messages_of(&net, base))
+    push_messages(said, &net, base);
+    Ok(())
 }
 
 // Of a base and a run: the messages; or why there are none.
@@ -164,7 +166,9 @@ pub fn write_said(base: u32, input: &[u8]) -> Result<Said, Refusal>
     if text::MAX_INPUT < input.len() {
         return Err(Refusal::TooLong);
     }
-    run_said(base, input)
+    let mut said = Said::new();
+    push_run(&mut said, base, input)?;
+    Ok(said)
 }
 
 // Of a base, n and messages: a line for each node; or why they are refused.
@@ -173,5 +177,7 @@ pub fn read_said(base: u32, n: u32, input: &[u8]) -> Result<Said, Refusal>
     ensures line { IfErr result (λ refusal. read_text base n input.now ≡ refusal_text refusal) }
 {
     let metrics = messages::read_messages(input, base, n)?;
-    Ok(metric_lines(&metrics))
+    let mut said = Said::new();
+    push_metrics(&mut said, &metrics);
+    Ok(said)
 }

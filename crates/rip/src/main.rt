@@ -48,19 +48,22 @@ fn fail(rt: &HostRuntime, what: &str, error: io::Error) {
     let _said = eprintln!(rt; "rip: {what}: {error}");
 }
 
-// Text to standard output, or why there is none to standard error.
-fn say(rt: &HostRuntime, said: Result<Said, Refusal>) {
+// Why there is no text, to standard error.
+fn say_refusal(rt: &HostRuntime, refusal: Refusal) {
+    if let Err(error) = rt.stderr().write_all(&command::line_of(refusal)) {
+        fail(rt, "standard error", error);
+    }
+}
+
+// Text to standard output, or why there is none.
+fn say(rt: &HostRuntime, said: &Result<Said, Refusal>) {
     match said {
         Ok(text) => {
-            if let Err(error) = rt.stdout().write_all(&text) {
+            if let Err(error) = rt.stdout().write_all(text) {
                 fail(rt, "standard output", error);
             }
         }
-        Err(refusal) => {
-            if let Err(error) = rt.stderr().write_all(&command::line_of(refusal)) {
-                fail(rt, "standard error", error);
-            }
-        }
+        Err(refusal) => say_refusal(rt, *refusal),
     }
 }
 
@@ -80,7 +83,7 @@ fn read_run(rt: &HostRuntime, base: u32, room: &mut [u8]) -> io::Result<usize>
 fn write_messages(rt: &HostRuntime, base: u32) {
     let mut room = [0u8; RUN_ROOM];
     match read_run(rt, base, &mut room) {
-        Ok(end) => say(rt, command::write_said(base, &room[..end])),
+        Ok(end) => say(rt, &command::write_said(base, &room[..end])),
         Err(error) => fail(rt, "standard input", error),
     }
 }
@@ -97,7 +100,7 @@ fn run_writing(rt: &HostRuntime) -> Option<()> {
 fn read_messages(rt: &HostRuntime, base: u32, count: u32) {
     let mut room = [0u8; MESSAGES_ROOM];
     match input::read_all(&mut rt.stdin(), &mut room) {
-        Ok(end) => say(rt, command::read_said(base, count, &room[..end])),
+        Ok(end) => say(rt, &command::read_said(base, count, &room[..end])),
         Err(error) => fail(rt, "standard input", error),
     }
 }
@@ -118,6 +121,6 @@ fn main(rt: HostRuntime) {
         _ => None,
     };
     if done.is_none() {
-        say(&rt, Err(Refusal::Usage));
+        say_refusal(&rt, Refusal::Usage);
     }
 }

@@ -12,4 +12,4 @@ returns-in_err-metrics-clause-line c =
 pub returns-clause-output : goal.returns-clause-output
 returns-clause-output c =
     read_prints c.args.base c.args.n c.args.input.now c.in_ok-metrics.ensures.number (c.deref.ensures.0 ∙ c.in_ok-metrics.ensures.metrics)
-    ∙ ap on_output (sym c.metric_lines.ensures)
+    ∙ ap on_output (sym (rw c.new-said.ensures at c.push_metrics.ensures))

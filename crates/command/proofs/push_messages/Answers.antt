@@ -1,9 +1,9 @@
--- `command::messages_of` meets its contract: there is room for the messages.
+-- `command::push_messages` meets its contract: there is room for the messages.
 -- Assumes nothing.
 use native.Mathlib.Omega.{arith}
 use mathlib.Core.Path.{◌≡◌, refl, sym, ap, ◌∙◌}
 use mathlib.Core.Bool.{false}
-use mathlib.Core.List.{List, []}
+use mathlib.Core.List.{List}
 use Prim.Native.Nat.{ℕ, ◌≤◌}
 use lib.ListN.{length, take, drop}
 use lib.Seq.{take_at, length-take-le}
@@ -18,7 +18,7 @@ use Rattle.text.proofs.Adding.{added_all}
 use Rattle.response.specs.Messages.{row_messages, write_of, base_fault, count_fault}
 use Rattle.response.proofs.Callers.{wrote_messages}
 use Rattle.response.proofs.Sizes.{largest_messages}
-use Rattle.command.proofs.messages_of.Goals as goal
+use Rattle.command.proofs.push_messages.Goals as goal
 
 -- the messages stand at the front of the room
 record Front (w room : List ℕ) (used : ℕ) : Type 0 where
@@ -50,4 +50,5 @@ pub returns : goal.returns
 returns c =
     let x = view c.args.net.now in
     let f = front c.args.base x _ c.write_messages.ensures c.requires.base_right c.requires.count_right refl c.unwrap_or-used.ensures in
-    rw (c.push_text.ensures, c.new-said.ensures, f.bytes) (added_all 4096 (row_messages c.args.base x) [] (omega (arith, f.long, f.within, c.write_messages.auto.out)))
+    rw (c.push_text.ensures, f.bytes)
+    (added_all 4096 (row_messages c.args.base x) c.args.said.now.items (omega (arith, f.long, f.within, c.write_messages.auto.out, c.requires.room)))
