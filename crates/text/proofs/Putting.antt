@@ -1,5 +1,5 @@
 -- What a part written over leaves of a list: for bytes put from a place on and others after them, by
--- #[tactic(auto, using(text::proofs::Putting::puts))]. The library's `overwrites` does it too, with no room to spare.
+-- #[tactic(auto, using(text::proofs::Putting::puts))].
 -- Assumes nothing.
 use mathlib.Core.List.{append_assoc}
 use lib.ListN.{length-append}
