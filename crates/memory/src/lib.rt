@@ -96,21 +96,22 @@ fn fresh_words(n: u32, origin: u32) -> Network
     net
 }
 
-// Whether n is 0 or above 32, or the origin is not below n.
-#[tactic(auto, unfolding(network::specs::Faults::size_fault))]
-fn bad_size(n: u32, origin: u32) -> bool
-    ensures { result ≡ size_fault n origin }
-{
-    n == 0 || network::MAX_NODES < n || n <= origin
-}
-
 // Makes the lent words a network of n nodes with no arcs and no routes but the origin's. Refused as Range for n or an origin, and then they are
 // the fresh network of one node.
-#[tactic(auto, using(crate::proofs::Laws::starts_refused, crate::proofs::Laws::starts_accepted, network::proofs::FaultLaws::size_says), unfolding(network::specs::Network::fresh_of, network::specs::Network::fresh_number))]
+#[tactic(auto, using(crate::proofs::Laws::starts_refused, crate::proofs::Laws::starts_accepted, network::proofs::FaultLaws::size_says), unfolding(network::specs::Network::fresh_of, network::specs::Network::fresh_number, network::specs::Faults::size_fault))]
 pub fn make_fresh(net: &mut Network, n: u32, origin: u32) -> Result<(), Fault>
     ensures { Starts (fresh_of n origin) (answered result) net.new }
 {
-    if bad_size(n, origin) {
+    // Three tests and not one: the compiler would clear the words before it, also where a caller has no use for them.
+    if n == 0 {
+        *net = fresh_words(1, 0);
+        return Err(Fault::Range);
+    }
+    if network::MAX_NODES < n {
+        *net = fresh_words(1, 0);
+        return Err(Fault::Range);
+    }
+    if n <= origin {
         *net = fresh_words(1, 0);
         return Err(Fault::Range);
     }
