@@ -9,8 +9,7 @@ use std::io::Write;
 // A room of fixed size is lent to the reader: there is no heap. One byte more than the longest input, so that a longer one is known without reading all of it.
 const ROOM: usize = text::MAX_INPUT + 1;
 
-// What failed, on standard error; if that fails too, nothing is left to say. Here and in `rip` by itself: no clause says which bytes are printed, so that
-// it has no contract that a public function could have.
+// What failed, on standard error; if that fails too, nothing is left to say. Here and in `rip` by itself; `input::fail` says the same for callers elsewhere.
 fn fail(rt: &HostRuntime, what: &str, error: io::Error) {
     let _said = eprintln!(rt; "routes: {what}: {error}");
 }
