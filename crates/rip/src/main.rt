@@ -43,7 +43,7 @@ fn argument<T, F: FnOnce(&[u8]) -> Option<T>>(rt: &HostRuntime, i: usize, read: 
 
 // ---- what is written
 
-// What failed, on standard error; if that fails too, nothing is left to say. Here and in `routes` by itself, as is said there.
+// What failed, on standard error; if that fails too, nothing is left to say. Here and in `routes` by itself; `input::fail` says the same for callers elsewhere.
 fn fail(rt: &HostRuntime, what: &str, error: io::Error) {
     let _said = eprintln!(rt; "rip: {what}: {error}");
 }
